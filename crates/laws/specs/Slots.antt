@@ -1,0 +1,49 @@
+-- A list in an array: its first elements count, and the slots behind them hold a filler.
+use Prim.Native.Nat.{ℕ, zero, suc, _+_, _-_, _<_, _≤_}
+use native.Mathlib.Nat.{not-suc-le-zero, le-of-suc-le-suc}
+use native.Mathlib.Numerals.{add-one}
+use native.Mathlib.Omega.{arith}
+use mathlib.Core.List.{List, [], _∷_, _++_, append-assoc, append-nil}
+use mathlib.Core.Path.{_≡_, refl, sym, ap, _∙_}
+use lib.ListN.{length, getD, set, take, drop, replicate, length-append, length-replicate}
+use lib.Seq.{set-append-seam, take-append-seam, set-at, take-at, drop-append-seam}
+
+module _ {ℓ} {A : Type ℓ} where
+  -- the first n elements, with d for each that is missing
+  unfoldable pub firstOf : ℕ → A → List A → List A
+  firstOf zero d l = []
+  firstOf (suc n) d [] = d ∷ firstOf n d []
+  firstOf (suc n) d (a ∷ l) = a ∷ firstOf n d l
+
+  -- the list with d behind it up to a size
+  abbrev pub padTo : ℕ → A → List A → List A
+  padTo size d l = l ++ replicate (size - length l) d
+
+  pub length-first : (n : ℕ) (d : A) (l : List A) → length (firstOf n d l) ≡ n
+  unfolding firstOf
+  length-first zero d l = refl
+  length-first (suc n) d [] = ap suc (length-first n d [])
+  length-first (suc n) d (a ∷ l) = ap suc (length-first n d l)
+
+  pub getD-first : (n : ℕ) (d : A) (l : List A) (i : ℕ) → i < n → getD (firstOf n d l) i d ≡ getD l i d
+  unfolding firstOf
+  getD-first zero d l i h = absurd (not-suc-le-zero h)
+  getD-first (suc n) d [] zero h = refl
+  getD-first (suc n) d [] (suc i) h = getD-first n d [] i (le-of-suc-le-suc h)
+  getD-first (suc n) d (a ∷ l) zero h = refl
+  getD-first (suc n) d (a ∷ l) (suc i) h = getD-first n d l i (le-of-suc-le-suc h)
+
+  first-fill : (n : ℕ) (d : A) (k : ℕ) → firstOf n d (replicate k d) ≡ firstOf n d []
+  unfolding firstOf
+  first-fill zero d k = refl
+  first-fill (suc n) d zero = refl
+  first-fill (suc n) d (suc k) = ap (λ (l : List A). d ∷ l) (first-fill n d k)
+
+  -- what was padded is found again
+  pub first-append : (d : A) (l m : List A) → firstOf (length l) d (l ++ m) ≡ l
+  unfolding firstOf
+  first-append d [] m = refl
+  first-append d (a ∷ l) m = ap (λ (k : List A). a ∷ k) (first-append d l m)
+
+  pub first-pad : (n size : ℕ) (d : A) (l : List A) → length l ≡ n → firstOf n d (padTo size d l) ≡ l
+  first-pad n size d l e = rw (← e) (first-append d l (replicate (size - length l) d))

@@ -1,0 +1,1 @@
+// Laws on lists and numbers that every layer above cites; no function.

@@ -1,0 +1,60 @@
+-- Demand 1 for every operation at once: what a reply says of the output, whatever the operation.
+use Prim.Native.Nat.{ℕ, _<_, _≤_}
+use native.Mathlib.Nat.{lt-irrefl, not-le-of-lt}
+use native.Mathlib.Omega.{arith}
+use mathlib.Core.Path.{_≡_, refl, sym, ap, _∙_}
+use mathlib.Core.Bool.{Bool, true, false, cond}
+use mathlib.Core.Logic.{_↔_}
+use mathlib.Core.List.{List, _++_}
+use lib.ListN.{length, take, drop}
+use lib.Seq.{take-append-seam, drop-append-seam}
+use lib.Dec.{ltb}
+use borrow.Author.Tests.{ltb-true, ltb-false, lt-ltb, le-ltb}
+use Rattle.reply.specs.declared.Refusal.{Refusal}
+use Rattle.reply.specs.declared.Refusal.the-variants.{OutputTooShort}
+use Rattle.reply.specs.declared.Reply.{Reply}
+use Rattle.reply.specs.declared.Reply.the-variants.{Written, Refused}
+use Rattle.reply.specs.Respond.{Outcome, answer, refusal, replyTo, outputOf}
+
+-- nothing is altered on a refusal
+pub refused-alters-nothing : (o : Outcome) (out : List ℕ) (r : Refusal) → replyTo o out ≡ Refused r → outputOf o out ≡ out
+refused-alters-nothing (answer bytes) out r = go (ltb (length out) (length bytes))
+  where
+    go : (t : Bool) → cond t (Refused OutputTooShort) (Written (length bytes)) ≡ Refused r → cond t out (bytes ++ drop (length bytes) out) ≡ out
+    go true e = refl
+    go false e = let z : _≡_ {A = ℕ} 0 1 = cc in absurd (omega arith)
+refused-alters-nothing (refusal r′) out r = λ e. refl
+
+-- a reply `Written n` comes with the n bytes of the answer at the front, and the bytes behind them stay
+pub record Filled (bytes out after : List ℕ) (n : ℕ) : Type 0 where
+  pub all : n ≡ length bytes
+  pub fits : n ≤ length out
+  pub front : take n after ≡ bytes
+  pub behind : drop n after ≡ drop n out
+
+pub written-fills : (bytes out : List ℕ) (n : ℕ) → replyTo (answer bytes) out ≡ Written n → Filled bytes out (outputOf (answer bytes) out) n
+written-fills bytes out n = go (ltb (length out) (length bytes)) refl
+  where
+    go : (t : Bool) → ltb (length out) (length bytes) ≡ t → cond t (Refused OutputTooShort) (Written (length bytes)) ≡ Written n
+        → Filled bytes out (cond t out (bytes ++ drop (length bytes) out)) n
+    go true q e = let z : _≡_ {A = ℕ} 0 1 = cc in absurd (omega arith)
+    go false q e =
+        let k : length bytes ≡ n = cc in
+        record {
+          all = sym k;
+          fits = rw k at (ltb-false (length out) (length bytes) q);
+          front = rw (← k) (take-append-seam bytes (drop (length bytes) out));
+          behind = rw (← k) (drop-append-seam bytes (drop (length bytes) out));
+        }
+
+-- 9 exactly when the answer is longer than the output
+pub too-short : (bytes out : List ℕ) → (replyTo (answer bytes) out ≡ Refused OutputTooShort) ↔ (length out < length bytes)
+too-short bytes out = (go (ltb (length out) (length bytes)) refl, λ h. rw (lt-ltb (length out) (length bytes) h))
+  where
+    go : (t : Bool) → ltb (length out) (length bytes) ≡ t → cond t (Refused OutputTooShort) (Written (length bytes)) ≡ Refused OutputTooShort → length out < length bytes
+    go true q e = ltb-true (length out) (length bytes) q
+    go false q e = let z : _≡_ {A = ℕ} 0 1 = cc in absurd (omega arith)
+
+-- any other refusal is told whatever the output
+pub refused-whatever : (r : Refusal) (out : List ℕ) → replyTo (refusal r) out ≡ Refused r
+refused-whatever r out = refl

@@ -1,0 +1,27 @@
+-- Document 01, "Who can cause a refusal": the number and the place of each refusal.
+use Prim.Native.Nat.{ℕ}
+use Rattle.reply.specs.declared.Refusal.{Refusal}
+use Rattle.reply.specs.declared.Refusal.the-variants.{Malformed, OutOfRange, LatestBelowEarliest, NoSuchTransition, NotEnabled, TooManyTokens, OutsideInterval, Untimable, OutputTooShort}
+
+abbrev pub numberOf : Refusal → ℕ
+numberOf (Malformed line) = 1
+numberOf (OutOfRange line) = 2
+numberOf (LatestBelowEarliest line) = 3
+numberOf (NoSuchTransition line) = 4
+numberOf (NotEnabled firing) = 5
+numberOf (TooManyTokens firing) = 6
+numberOf (OutsideInterval firing) = 7
+numberOf (Untimable firing) = 8
+numberOf OutputTooShort = 9
+
+-- a line of a card from 1, a firing from 1, or 0 where the output is too short
+abbrev pub positionOf : Refusal → ℕ
+positionOf (Malformed line) = line
+positionOf (OutOfRange line) = line
+positionOf (LatestBelowEarliest line) = line
+positionOf (NoSuchTransition line) = line
+positionOf (NotEnabled firing) = firing
+positionOf (TooManyTokens firing) = firing
+positionOf (OutsideInterval firing) = firing
+positionOf (Untimable firing) = firing
+positionOf OutputTooShort = 0

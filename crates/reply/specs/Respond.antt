@@ -1,0 +1,31 @@
+-- What an operation's outcome means for the caller's reply and the caller's output.
+use Prim.Native.Nat.{ℕ, _<_}
+use mathlib.Core.Path.{_≡_}
+use mathlib.Core.Bool.{Bool, cond}
+use mathlib.Core.List.{List, _++_}
+use lib.ListN.{length, drop}
+use lib.Dec.{ltb}
+use Rattle.reply.specs.declared.Refusal.{Refusal}
+use Rattle.reply.specs.declared.Refusal.the-variants.{OutputTooShort}
+use Rattle.reply.specs.declared.Reply.{Reply}
+use Rattle.reply.specs.declared.Reply.the-variants.{Written, Refused}
+
+-- what an operation finds before it looks at the output: the bytes of the answer, or a refusal
+pub data Outcome : Type 0 where
+  answer : List ℕ → Outcome
+  refusal : Refusal → Outcome
+
+-- the reply, from the outcome and the output at entry
+abbrev pub replyTo : Outcome → List ℕ → Reply
+replyTo (answer bytes) out = cond (ltb (length out) (length bytes)) (Refused OutputTooShort) (Written (length bytes))
+replyTo (refusal r) out = Refused r
+
+-- the output at exit: an answer fills it from its first byte and the bytes behind it stay; otherwise it stays as it was
+abbrev pub outputOf : Outcome → List ℕ → List ℕ
+outputOf (answer bytes) out = cond (ltb (length out) (length bytes)) out (bytes ++ drop (length bytes) out)
+outputOf (refusal r) out = out
+
+-- what the caller of an operation finds
+pub record Responded (o : Outcome) (entry : List ℕ) (r : Reply) (exit : List ℕ) : Type 0 where
+  pub reply : r ≡ replyTo o entry
+  pub output : exit ≡ outputOf o entry

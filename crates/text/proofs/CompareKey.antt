@@ -1,0 +1,50 @@
+-- A key is compared byte by byte: it stands at a position exactly where what is left of it stands behind the bytes passed.
+use Prim.Native.Nat.{ℕ, zero, suc, _+_, _≤_, _<_, suc-le-suc}
+use native.Mathlib.Numerals.{add-one}
+use native.Mathlib.Omega.{arith}
+use native.Mathlib.Nat.{add-suc, add-zero, zero-lt-suc}
+use mathlib.Core.List.{List, [], _∷_}
+use mathlib.Core.Bool.{true, false, _&&_, false≢true}
+use mathlib.Core.Path.{_≡_, refl, sym, _∙_}
+use lib.ListN.{length, getD, drop, drop-of-length-le}
+use lib.Seq.{drop-cons}
+use lib.Dec.{eqb}
+use borrow.Author.Tests.{eq-eqb, ne-eqb}
+use Rattle.text.specs.Key.{beginsWith}
+
+-- the state of a comparison that has passed i bytes: the key stands at `at` exactly where what is left of it stands i further on
+pub record Begins (s : List ℕ) (at : ℕ) (key : List ℕ) (i : ℕ) : Type 0 where
+  pub within : i ≤ length key
+  pub same : beginsWith key (drop at s) ≡ beginsWith (drop i key) (drop (at + i) s)
+
+pub begins-start : (s : List ℕ) (at : ℕ) (key : List ℕ) → Begins s at key 0
+begins-start s at key = record { within = omega arith; same = rw add-zero refl }
+
+module _ (s : List ℕ) (at : ℕ) (key : List ℕ) (i : ℕ) where
+  step : i < length key → at + i < length s →
+      beginsWith (drop i key) (drop (at + i) s) ≡ eqb (getD s (at + i) 0) (getD key i 0) && beginsWith (drop (i + 1) key) (drop (at + (i + 1)) s)
+  unfolding beginsWith
+  step l m = rw (add-one, add-suc, drop-cons key i 0, drop-cons s (at + i) 0) refl
+
+  module _ (h : Begins s at key i) where
+    pub begins-more : i < length key → at + i < length s → getD s (at + i) 0 ≡ getD key i 0 → Begins s at key (i + 1)
+    begins-more l m e = record { within = omega arith; same = h .same ∙ step l m ∙ rw (eq-eqb _ _ e) refl }
+
+    pub begins-differs : i < length key → at + i < length s → (getD s (at + i) 0 ≡ getD key i 0 → ⊥) → false ≡ beginsWith key (drop at s)
+    begins-differs l m e = sym (h .same ∙ step l m ∙ rw (ne-eqb _ _ e) refl)
+
+    pub begins-short : i < length key → length s ≤ at + i → false ≡ beginsWith key (drop at s)
+    unfolding beginsWith
+    begins-short l m = sym (h .same ∙ rw (drop-of-length-le s m, drop-cons key i 0) refl)
+
+    pub begins-all : length key ≤ i → true ≡ beginsWith key (drop at s)
+    unfolding beginsWith
+    begins-all m = sym (h .same ∙ rw (drop-of-length-le key m) refl)
+
+-- where a key of one byte or more stands, there is a byte
+pub begins-within : (k : ℕ) (key s : List ℕ) (at : ℕ) → beginsWith (k ∷ key) (drop at s) ≡ true → at < length s
+unfolding beginsWith
+begins-within k key [] zero e = absurd (false≢true e)
+begins-within k key [] (suc at) e = absurd (false≢true e)
+begins-within k key (b ∷ s) zero e = zero-lt-suc (length s)
+begins-within k key (b ∷ s) (suc at) e = suc-le-suc (begins-within k key s at e)

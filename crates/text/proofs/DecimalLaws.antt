@@ -1,0 +1,74 @@
+-- How many digits a number has: the one width that is enough for it while no smaller one is.
+use Prim.Native.Nat.{ℕ, zero, suc, _-_, _%_, _^_, _≤_, _<_}
+use native.Mathlib.Nat.{pow-le-pow-right, le-antisymm}
+use native.Mathlib.Omega.{arith}
+use mathlib.Core.Bool.{Bool, true, false, cond}
+use mathlib.Core.Logic.{_⊎_, inl, inr}
+use mathlib.Core.Path.{_≡_, refl, ap}
+use lib.ListN.{length}
+use lib.Dec.{leb, lit<, lit≤}
+use borrow.Author.Tests.{leb-true, leb-false}
+use Rattle.text.specs.Decimal.{digits, width, decimal}
+
+pub length-digits : (k n : ℕ) → length (digits k n) ≡ k
+unfolding digits
+length-digits zero n = refl
+length-digits (suc k) n = ap suc (length-digits k (n % 10 ^ k))
+
+-- n has w digits: w are enough, and one less is not unless w is 1
+pub record Width (n w : ℕ) : Type 0 where
+  pub enough : n < 10 ^ w
+  pub one : 1 ≤ w
+  pub least : (w ≡ 1) ⊎ (10 ^ (w - 1) ≤ n)
+
+-- no width that is enough is smaller
+pub width-least : (n v w : ℕ) → Width n v → n < 10 ^ w → 1 ≤ w → v ≤ w
+width-least n v w a h o = go (leb v w) refl (a .least)
+  where
+    go : (t : Bool) → leb v w ≡ t → (v ≡ 1) ⊎ (10 ^ (v - 1) ≤ n) → v ≤ w
+    go true e _ = leb-true v w e
+    go false e (inl q) = omega arith
+    go false e (inr l) =
+        let m = leb-false v w e in
+        let p : 10 ^ w ≤ 10 ^ (v - 1) = pow-le-pow-right {n = 10} (lit< tt) (omega arith) in
+        absurd (omega arith)
+
+pub width-unique : (n v w : ℕ) → Width n v → Width n w → v ≡ w
+width-unique n v w a b = le-antisymm (width-least n v w a (b .enough) (b .one)) (width-least n w v b (a .enough) (a .one))
+
+pub width-one : (k n : ℕ) → 1 ≤ width k n
+unfolding width
+width-one zero n = omega arith
+width-one (suc k) n = go (width-one k n) (leb (10 ^ suc k) n)
+  where
+    go : 1 ≤ width k n → (t : Bool) → 1 ≤ cond t (suc (suc k)) (width k n)
+    go h true = omega arith
+    go h false = h
+
+pub width-most : (k n : ℕ) → width k n ≤ suc k
+unfolding width
+width-most zero n = omega arith
+width-most (suc k) n = go (width-most k n) (leb (10 ^ suc k) n)
+  where
+    go : width k n ≤ suc k → (t : Bool) → cond t (suc (suc k)) (width k n) ≤ suc (suc k)
+    go h true = omega arith
+    go h false = omega arith
+
+pub width-right : (k n : ℕ) → n < 10 ^ suc k → Width n (width k n)
+unfolding width
+width-right zero n h = record { enough = h; one = omega arith; least = inl refl }
+width-right (suc k) n h = go (width-right k n) (leb (10 ^ suc k) n) refl
+  where
+    go : (n < 10 ^ suc k → Width n (width k n)) → (t : Bool) → leb (10 ^ suc k) n ≡ t → Width n (cond t (suc (suc k)) (width k n))
+    go w true e = record { enough = h; one = omega arith; least = let one-less : suc (suc k) - 1 ≡ suc k = omega arith in inr (rw one-less (leb-true (10 ^ suc k) n e)) }
+    go w false e = w (leb-false (10 ^ suc k) n e)
+
+pub decimal-width : (n : ℕ) → length (decimal n) ≡ width 19 n
+unfolding decimal
+decimal-width n = length-digits (width 19 n) n
+
+pub length-decimal : (n : ℕ) → 1 ≤ length (decimal n)
+length-decimal n = omega (arith, decimal-width n, width-one 19 n)
+
+pub length-decimal-small : (n : ℕ) → n < 10 ^ 9 → length (decimal n) ≤ 9
+length-decimal-small n h = omega (arith, decimal-width n, width-least n (width 19 n) 9 (width-right 19 n (omega arith)) h (lit≤ tt))

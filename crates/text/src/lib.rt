@@ -1,0 +1,200 @@
+// The bytes of a card: keys, words and decimal numbers, compared or read at a position and written to a position.
+ghost use mathlib.Core.Path.{_≡_};
+ghost use Prim.Native.Nat.{_+_, _≤_, _<_, _^_};
+ghost use mathlib.Core.List.{[], _∷_};
+ghost use lib.ListN.{length, drop};
+ghost use Rattle.laws.specs.Splice.{Wrote};
+ghost use Rattle.text.specs.Key.{beginsWith};
+ghost use Rattle.text.specs.Number.{classOf, numberAt, fieldAt, separator};
+ghost use Rattle.text.specs.Decimal.{decimal, width, field};
+
+// What a byte is to a reader of cards.
+pub enum ByteClass {
+    Digit(u8),
+    Comma,
+    LineEnd,
+    Other,
+}
+
+pub fn class_of(b: u8) -> ByteClass
+    ensures { λ r. ⌜ r ≡ classOf b ⌝ }
+{
+    match b {
+        48..=57 => ByteClass::Digit(b - 48),
+        44 => ByteClass::Comma,
+        10 => ByteClass::LineEnd,
+        _ => ByteClass::Other,
+    }
+}
+
+// A number and the position behind it, or that no number of the right form stands there.
+pub enum NumberRead {
+    Value { value: u32, next: usize },
+    NoNumber,
+}
+
+// The number that stands at a position: one to nine digits, no leading zero.
+pub fn number_at(s: &[u8], at: usize) -> NumberRead
+    ensures { λ r. ⌜ r ≡ numberAt (now (s .entry)) at ⌝ }
+{
+    let mut v: u32 = 0;
+    let mut i: usize = at;
+    'digits: while i < s.len() {
+        let c = class_of(s[i]);
+        let ByteClass::Digit(d) = c else {
+            break 'digits;
+        };
+        if i - at == 9 {
+            return NumberRead::NoNumber;
+        }
+        v = v * 10 + d as u32;
+        i += 1;
+    }
+    if i == at {
+        return NumberRead::NoNumber;
+    }
+    if i - at == 1 {
+        return NumberRead::Value { value: v, next: i };
+    }
+    if s[at] == 48 {
+        return NumberRead::NoNumber;
+    }
+    NumberRead::Value { value: v, next: i }
+}
+
+// The number that stands at a position with its separator: a line end behind the last of a line, else a comma.
+pub fn field_at(s: &[u8], at: usize, last: bool) -> NumberRead
+    ensures { λ r. ⌜ r ≡ fieldAt (now (s .entry)) at last ⌝ }
+{
+    let n = number_at(s, at);
+    match n {
+        NumberRead::NoNumber => NumberRead::NoNumber,
+        NumberRead::Value { value, next } => {
+            if separated(s, next, last) {
+                NumberRead::Value {
+                    value,
+                    next: next + 1,
+                }
+            } else {
+                NumberRead::NoNumber
+            }
+        }
+    }
+}
+
+// Whether the separator stands at a position.
+fn separated(s: &[u8], at: usize, last: bool) -> bool
+    ensures { λ r. ⌜ r ≡ beginsWith (separator last ∷ []) (drop at (now (s .entry))) ⌝ }
+{
+    if s.len() <= at {
+        return false;
+    }
+    let c = class_of(s[at]);
+    match c {
+        ByteClass::Comma => !last,
+        ByteClass::LineEnd => last,
+        ByteClass::Digit(_) => false,
+        ByteClass::Other => false,
+    }
+}
+
+// Whether a key stands at a position.
+pub fn begins_at(s: &[u8], at: usize, key: &[u8]) -> bool
+    ensures { λ r. ⌜ r ≡ beginsWith (now (key .entry)) (drop at (now (s .entry))) ⌝ }
+{
+    let mut i: usize = 0;
+    'bytes: while i < key.len() {
+        if s.len() <= at {
+            return false;
+        }
+        if s.len() - at <= i {
+            return false;
+        }
+        if s[at + i] != key[i] {
+            return false;
+        }
+        i += 1;
+    }
+    true
+}
+
+// The writers below each ask for room behind their position; the writer of a whole card shows it once, by the longest card.
+
+// A text copied to a position; the position behind it.
+pub fn put_bytes(out: &mut [u8], at: usize, text: &[u8]) -> usize
+    requires { ⌜ at + length (now text) ≤ length (now out) ⌝ }
+    ensures { λ r. ⌜ Wrote (now (out .entry)) at (now (text .entry)) r (now (out .exit)) ⌝ }
+{
+    let n = bytes::copy(text, &mut out[at..]);
+    at + n
+}
+
+// 10 to the power of each index.
+const POWERS: [u64; 20] = [
+    1,
+    10,
+    100,
+    1000,
+    10000,
+    100000,
+    1000000,
+    10000000,
+    100000000,
+    1000000000,
+    10000000000,
+    100000000000,
+    1000000000000,
+    10000000000000,
+    100000000000000,
+    1000000000000000,
+    10000000000000000,
+    100000000000000000,
+    1000000000000000000,
+    10000000000000000000,
+];
+
+// How many digits a number has.
+fn width_of(n: u64) -> usize
+    ensures { λ r. ⌜ (r ≡ width 19 n) × (r ≤ 20) × (n < 10 ^ r) ⌝ }
+{
+    let mut w: usize = 1;
+    while w < 20 {
+        if n < POWERS[w] {
+            return w;
+        }
+        w += 1;
+    }
+    w
+}
+
+// A number written at a position, its highest digit first; the position behind it.
+pub fn put_number(out: &mut [u8], at: usize, n: u64) -> usize
+    requires { ⌜ at + length (decimal n) ≤ length (now out) ⌝ }
+    ensures { λ r. ⌜ Wrote (now (out .entry)) at (decimal n) r (now (out .exit)) ⌝ }
+{
+    let mut left = width_of(n);
+    let mut v = n;
+    let mut to = at;
+    while 0 < left {
+        left -= 1;
+        let power = POWERS[left];
+        out[to] = (48 + v / power) as u8;
+        v = v % power;
+        to += 1;
+    }
+    to
+}
+
+// A number and its separator written at a position; the position behind both.
+pub fn put_field(out: &mut [u8], at: usize, n: u64, last: bool) -> usize
+    requires { ⌜ at + length (field n last) ≤ length (now out) ⌝ }
+    ensures { λ r. ⌜ Wrote (now (out .entry)) at (field n last) r (now (out .exit)) ⌝ }
+{
+    let to = put_number(&mut *out, at, n);
+    if last {
+        out[to] = 10;
+    } else {
+        out[to] = 44;
+    }
+    to + 1
+}
