@@ -1,0 +1,66 @@
+-- What a reading that found something, or a check that passed, says of its parts: a refusal of any part would be the refusal of the whole.
+use Prim.Native.Nat.{ℕ}
+use native.Mathlib.Omega.{arith}
+use mathlib.Core.Path.{_≡_, refl}
+use mathlib.Core.Bool.{Bool, true, false, cond}
+use Rattle.reply.specs.declared.Refusal.{Refusal}
+use Rattle.reply.specs.declared.Checked.{Checked}
+use Rattle.reply.specs.declared.Checked.the-variants.{Passed, Refused}
+use Rattle.form.specs.Form.{Found, found, refused, andThen, judged, also}
+
+-- the values that a reading in two steps went through
+pub record Went {A B : Type 0} (m : Found A) (more : A → ℕ → Found B) (b : B) (end : ℕ) : Type 0 where
+  pub value : A
+  pub place : ℕ
+  pub first : m ≡ found value place
+  pub then : more value place ≡ found b end
+
+pub not-both : {A : Type 0} {r : Refusal} {a : A} {next : ℕ} → refused r ≡ found a next → ⊥
+not-both e = let z : _≡_ {A = ℕ} 0 1 = cc in omega arith
+
+pub then-found : {A B : Type 0} (m : Found A) (more : A → ℕ → Found B) {b : B} {end : ℕ} → andThen m more ≡ found b end → Went m more b end
+then-found (found a next) more e = record { value = a; place = next; first = refl; then = e }
+then-found (refused r) more e = absurd (not-both e)
+
+-- two readings whose second steps agree where the first found something
+pub then-same : {A B : Type 0} (m : Found A) (more more′ : A → ℕ → Found B) → ((a : A) (next : ℕ) → m ≡ found a next → more a next ≡ more′ a next)
+    → andThen m more ≡ andThen m more′
+then-same (found a next) more more′ h = h a next refl
+then-same (refused r) more more′ h = refl
+
+-- a second step that does nothing
+pub then-nothing : {A : Type 0} (m : Found A) → andThen m (λ a next. found a next) ≡ m
+then-nothing (found a next) = refl
+then-nothing (refused r) = refl
+
+-- three steps, grouped either way
+pub then-then : {A B C : Type 0} (m : Found A) (f : A → ℕ → Found B) (g : B → ℕ → Found C) → andThen (andThen m f) g ≡ andThen m (λ a next. andThen (f a next) g)
+then-then (found a next) f g = refl
+then-then (refused r) f g = refl
+
+pub found-value : {A : Type 0} {a b : A} {next end : ℕ} → found a next ≡ found b end → a ≡ b
+found-value e = cc
+
+pub found-place : {A : Type 0} {a b : A} {next end : ℕ} → found a next ≡ found b end → next ≡ end
+found-place e = cc
+
+pub also-first : (c c′ : Checked) → also c c′ ≡ Passed → c ≡ Passed
+also-first Passed c′ e = refl
+also-first (Refused r) c′ e = e
+
+pub also-second : (c c′ : Checked) → also c c′ ≡ Passed → c′ ≡ Passed
+also-second Passed c′ e = e
+also-second (Refused r) c′ e = cc
+
+pub judged-passed : {A : Type 0} (c : Checked) (a : A) (next : ℕ) {b : A} {end : ℕ} → judged c a next ≡ found b end → c ≡ Passed
+judged-passed Passed a next e = refl
+judged-passed (Refused r) a next e = absurd (not-both e)
+
+pub judged-found : {A : Type 0} (c : Checked) (a : A) (next : ℕ) {b : A} {end : ℕ} → judged c a next ≡ found b end → found a next ≡ found b end
+judged-found Passed a next e = e
+judged-found (Refused r) a next e = absurd (not-both e)
+
+-- a test that decides a check
+pub test-passed : (t : Bool) (r : Refusal) → cond t Passed (Refused r) ≡ Passed → t ≡ true
+test-passed true r e = refl
+test-passed false r e = cc

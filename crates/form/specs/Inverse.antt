@@ -1,0 +1,32 @@
+-- What makes a form a format: its reader and its writer are inverse, and its reader looks at a bounded part of the input alone.
+use Prim.Native.Nat.{ℕ, _+_, _≤_}
+use mathlib.Core.Path.{_≡_}
+use mathlib.Core.List.{List, _++_}
+use lib.ListN.{length, take, drop}
+use Rattle.reply.specs.declared.Checked.the-variants.{Passed}
+use Rattle.form.specs.Form.{Found, found, Form}
+
+-- a value that was read: its text stands there, it passes the check, and it is clean
+pub record WasRead {A : Type 0} (f : Form A) (a : A) (s : List ℕ) (at next line : ℕ) : Type 0 where
+  pub bytes : drop at s ≡ f .text a ++ drop next s
+  pub end : next ≡ at + length (f .text a)
+  pub passed : f .check a line ≡ Passed
+  pub cleaned : f .clean a ≡ a
+
+pub record Inverse {A : Type 0} (f : Form A) : Type 0 where
+  -- what is written is read back, whatever stands behind it
+  pub read-written : (a : A) (s rest : List ℕ) (at line : ℕ) → f .check a line ≡ Passed → drop at s ≡ f .text a ++ rest
+      → f .read s at line ≡ found (f .clean a) (at + length (f .text a))
+  -- what was read is what its text says
+  pub written-read : (a : A) (s : List ℕ) (at next line : ℕ) → f .read s at line ≡ found a next → WasRead f a s at next line
+
+-- what is no part of a value changes neither its text nor its lines nor its check
+pub record Settled {A : Type 0} (f : Form A) : Type 0 where
+  pub same-text : (a : A) → f .text (f .clean a) ≡ f .text a
+  pub same-lines : (a : A) → f .lines (f .clean a) ≡ f .lines a
+  pub same-check : (a : A) (line : ℕ) → f .check (f .clean a) line ≡ f .check a line
+
+-- a reading looks at `reach` bytes at most
+pub record Reaches {A : Type 0} (f : Form A) (reach : ℕ) : Type 0 where
+  pub near : (a : A) (s : List ℕ) (at next line : ℕ) → f .read s at line ≡ found a next → next ≤ at + reach
+  pub prefix : (s : List ℕ) (k at line : ℕ) → at + reach ≤ k → f .read (take k s) at line ≡ f .read s at line

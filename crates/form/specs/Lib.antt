@@ -1,0 +1,4 @@
+pub mod Form
+pub mod Inverse
+pub mod Line
+pub mod Code
