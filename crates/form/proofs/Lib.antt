@@ -1,3 +1,4 @@
+pub mod Answers
 pub mod Card
 pub mod Combine
 pub mod Found

@@ -1,3 +1,5 @@
+pub mod FourWriters
+pub mod Front
 pub mod Parts
 pub mod Room
 pub mod SlotSteps

@@ -1,12 +1,9 @@
 -- A list in an array: its first elements count, and the slots behind them hold a filler.
-use Prim.Native.Nat.{ℕ, zero, suc, _+_, _-_, _<_, _≤_}
+use Prim.Native.Nat.{ℕ, zero, suc, _-_, _<_}
 use native.Mathlib.Nat.{not-suc-le-zero, le-of-suc-le-suc}
-use native.Mathlib.Numerals.{add-one}
-use native.Mathlib.Omega.{arith}
-use mathlib.Core.List.{List, [], _∷_, _++_, append-assoc, append-nil}
-use mathlib.Core.Path.{_≡_, refl, sym, ap, _∙_}
-use lib.ListN.{length, getD, set, take, drop, replicate, length-append, length-replicate}
-use lib.Seq.{set-append-seam, take-append-seam, set-at, take-at, drop-append-seam}
+use mathlib.Core.List.{List, [], _∷_, _++_}
+use mathlib.Core.Path.{_≡_, refl, ap}
+use lib.ListN.{length, getD, replicate}
 
 module _ {ℓ} {A : Type ℓ} where
   -- the first n elements, with d for each that is missing
@@ -38,6 +35,12 @@ module _ {ℓ} {A : Type ℓ} where
   first-fill zero d k = refl
   first-fill (suc n) d zero = refl
   first-fill (suc n) d (suc k) = ap (λ (l : List A). d ∷ l) (first-fill n d k)
+
+  -- within the list the filler does not matter
+  pub getD-within : (l : List A) (i : ℕ) (d d′ : A) → i < length l → getD l i d ≡ getD l i d′
+  getD-within [] i d d′ h = absurd (not-suc-le-zero h)
+  getD-within (a ∷ l) zero d d′ h = refl
+  getD-within (a ∷ l) (suc i) d d′ h = getD-within l i d d′ (le-of-suc-le-suc h)
 
   -- what was padded is found again
   pub first-append : (d : A) (l m : List A) → firstOf (length l) d (l ++ m) ≡ l

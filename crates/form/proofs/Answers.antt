@@ -1,0 +1,73 @@
+-- What a reader of this crate returned, as what its form finds: the two cases of `Found` are told by the two variants of each answer. Forms
+-- in a row are read from what each of them finds.
+use Prim.Native.Nat.{ℕ, _+_, _*_}
+use native.Mathlib.Nat.{mul-suc}
+use native.Mathlib.Omega.{arith}
+use mathlib.Core.Path.{_≡_, ap, _∙_}
+use mathlib.Core.Bool.{true, false}
+use mathlib.Core.List.{List, [], _∷_}
+use lib.ListN.{length, drop, replicate}
+use Rattle.laws.specs.Slots.{firstOf, length-first}
+use Rattle.reply.specs.declared.Refusal.{Refusal}
+use Rattle.reply.specs.declared.Refusal.the-variants.{Malformed}
+use Rattle.text.specs.Key.{beginsWith}
+use Rattle.form.specs.declared.NumberLine.the-variants.{Value, Refused}
+use Rattle.form.specs.declared.LineRead.{LineRead}
+use Rattle.form.specs.declared.LineRead.the-variants.{Next, Stopped}
+use Rattle.form.specs.declared.Numbers.{Numbers}
+use Rattle.form.specs.Form.{Found, found, refused, Form, keyed, chain, linesOf, times}
+use Rattle.form.specs.Code.{numberLine, lineRead, valueOr, numbers}
+
+-- a line's number
+pub number-found : (f : Found ℕ) {v next : ℕ} → numberLine f ≡ Value v next → f ≡ found v next
+number-found (found n to) e = cc
+number-found (refused r) e = cc
+
+pub number-refused : (f : Found ℕ) {r : Refusal} → numberLine f ≡ Refused r → f ≡ refused r
+number-refused (found n to) e = cc
+number-refused (refused r) e = cc
+
+-- where reading went on, and the value beside that
+pub line-found : {A : Type 0} (f : Found A) (d a : A) (read : LineRead) {next : ℕ} → read ≡ lineRead f → a ≡ valueOr d f → read ≡ Next next → f ≡ found a next
+line-found (found b to) d a read p v e = cc
+line-found (refused r) d a read p v e = cc
+
+pub line-stopped : {A : Type 0} (f : Found A) (read : LineRead) {r : Refusal} → read ≡ lineRead f → read ≡ Stopped r → f ≡ refused r
+line-stopped (found b to) read p e = cc
+line-stopped (refused r) read p e = cc
+
+-- up to sixteen numbers
+pub numbers-found : (f : Found (List ℕ)) (t : Numbers) {next : ℕ} → t ≡ numbers f → t .read ≡ Next next → f ≡ found (t .items) next
+numbers-found f t p e = line-found f (replicate 16 0) (t .items) (t .read) (cc) (cc) e
+
+pub numbers-stopped : (f : Found (List ℕ)) (t : Numbers) {r : Refusal} → t ≡ numbers f → t .read ≡ Stopped r → f ≡ refused r
+numbers-stopped f t p e = line-stopped f (t .read) (cc) e
+
+-- a key in front
+module _ {A : Type 0} (key : List ℕ) (f : Form A) (s : List ℕ) (at line : ℕ) where
+  pub keyed-there : beginsWith key (drop at s) ≡ true → keyed key f .read s at line ≡ f .read s (at + length key) line
+  keyed-there e = rw e
+
+  pub keyed-missing : beginsWith key (drop at s) ≡ false → keyed key f .read s at line ≡ refused (Malformed line)
+  keyed-missing e = rw e
+
+-- one form behind another
+module _ {A B : Type 0} (f : Form A) (g : A → Form B) (s : List ℕ) (at line : ℕ) where
+  pub chain-stopped : {r : Refusal} → f .read s at line ≡ refused r → chain f g .read s at line ≡ refused r
+  chain-stopped e = rw e
+
+  module _ {a : A} {next : ℕ} (e : f .read s at line ≡ found a next) where
+    pub chain-then-stopped : {r : Refusal} → g a .read s next (line + f .lines a) ≡ refused r → chain f g .read s at line ≡ refused r
+    chain-then-stopped e′ = rw (e, e′)
+
+    pub chain-found : {b : B} {end : ℕ} → g a .read s next (line + f .lines a) ≡ found b end → chain f g .read s at line ≡ found (a, b) end
+    chain-found e′ = rw (e, e′)
+
+-- how many lines n parts are, of which each has k
+lines-each : {A : Type 0} (f : Form A) (k : ℕ) → ((a : A) → f .lines a ≡ k) → (l : List A) → linesOf f l ≡ k * length l
+unfolding linesOf
+lines-each f k h [] = omega arith
+lines-each f k h (a ∷ l) = rw (mul-suc k (length l)) (omega (arith, h a, lines-each f k h l))
+
+pub times-lines : {A : Type 0} (n size : ℕ) (d : A) (f : Form A) (k : ℕ) → ((a : A) → f .lines a ≡ k) → (l : List A) → times n size d f .lines l ≡ k * n
+times-lines n size d f k h l = lines-each f k h (firstOf n d l) ∙ ap (λ (m : ℕ). k * m) (length-first n d l)

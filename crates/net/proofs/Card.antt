@@ -1,0 +1,272 @@
+-- The net card is a format: each of its lines is one, and the counts of the first two lines bound how many follow. A number never begins
+-- like the word for no upper bound, since the word's first byte is no digit.
+use Prim.Native.Nat.{ℕ, _+_, _≤_}
+use native.Mathlib.Omega.{arith}
+use mathlib.Core.Path.{_≡_, refl, ap, subst, _∙_}
+use mathlib.Core.Bool.{Bool, true, false, cond}
+use mathlib.Core.Logic.{_↔_}
+use mathlib.Core.List.{List, _++_}
+use lib.ListN.{length, take, drop}
+use lib.Seq.{take-at}
+use lib.Dec.{lit<, ltb}
+use Rattle.reply.specs.declared.Refusal.the-variants.{LatestBelowEarliest}
+use Rattle.reply.specs.declared.Checked.{Checked}
+use Rattle.reply.specs.declared.Checked.the-variants.{Passed, Refused}
+use Rattle.reply.specs.Respond.{answer}
+use Rattle.text.specs.declared.NumberRead.the-variants.{Value, NoNumber}
+use Rattle.text.specs.Key.{beginsWith}
+use Rattle.text.specs.Number.{digitsOf, fieldAt}
+use Rattle.text.specs.Decimal.{field}
+use Rattle.text.proofs.KeyLaws.{begins-text, begins-split, begins-take}
+use Rattle.text.proofs.NumberLaws.{field-text, field-split, field-near, field-take}
+use Rattle.form.specs.Form.{found, andThen, judged, keyed, chain}
+use Rattle.form.specs.Line.{formed, ranged, number, items}
+use Rattle.form.specs.Inverse.{WasRead, Inverse, Settled, Reaches}
+use Rattle.form.proofs.Found.{found-place, then-found, also-first, also-second, judged-passed, judged-found}
+use Rattle.form.proofs.Combine.{was-same, reaches-more, keyed-inverse, keyed-settled, keyed-reaches, chain-inverse, chain-settled, chain-reaches, held-inverse, held-settled, held-reaches, times-inverse, times-settled, times-reaches}
+use Rattle.form.proofs.Lines.{formed-value, ranged-within, ranged-small, items-inverse, items-settled, items-reaches, ranged-inverse, ranged-read, ranged-settled, number-line-reaches, word-was}
+use Rattle.form.proofs.Card.{read-back, written-again, passes-exactly, text-short}
+use Rattle.net.specs.declared.Latest.{Latest}
+use Rattle.net.specs.declared.Latest.the-variants.{Unbounded, Ticks}
+use Rattle.net.specs.declared.Net.{Net}
+use Rattle.net.specs.Keys.{placesKey, transitionsKey, startKey, earliestKey, latestKey, takeKey, giveKey, infLine}
+use Rattle.net.specs.Net.{latestChecked, latest, weights, toTransition, fromTransition, transition, noTransition, starts, table, body, toNet, fromNet, netCard}
+use Rattle.net.specs.Code.{writtenIf, netText}
+
+-- where the word stands there is no number
+word-no-number : (s : List ℕ) (at : ℕ) → beginsWith infLine (drop at s) ≡ true → fieldAt s at true ≡ NoNumber
+unfolding digitsOf fieldAt
+word-no-number s at t = rw (begins-split infLine s at t .0) refl
+
+number-no-word : (n at next : ℕ) (s : List ℕ) → fieldAt s at true ≡ Value n next → beginsWith infLine (drop at s) ≡ false
+number-no-word n at next s e = go (beginsWith infLine (drop at s)) refl
+  where
+    go : (t : Bool) → beginsWith infLine (drop at s) ≡ t → beginsWith infLine (drop at s) ≡ false
+    go true t = let q = word-no-number s at t in let z : _≡_ {A = ℕ} 0 1 = cc in absurd (omega arith)
+    go false t = t
+
+module _ (earliest : ℕ) where
+  latest-back : (l : Latest) (s rest : List ℕ) (at line : ℕ) → latestChecked earliest l line ≡ Passed → drop at s ≡ latest earliest .text l ++ rest
+      → latest earliest .read s at line ≡ found l (at + length (latest earliest .text l))
+  latest-back Unbounded s rest at line p e = rw (ap (beginsWith infLine) e ∙ begins-text infLine rest) refl
+  latest-back (Ticks n) s rest at line p e =
+      let small = ranged-small 0 1000 (lit< tt) n line (also-first (ranged 0 1000 n line) (cond (ltb n earliest) (Refused (LatestBelowEarliest line)) Passed) p) in
+      let q = field-text n at true s rest small e in
+      rw (number-no-word n at (at + length (field n true)) s q, q, p) refl
+
+  ticks-was : (l : Latest) (s : List ℕ) (at next line : ℕ) → andThen (formed line (fieldAt s at true)) (λ n to. judged (latestChecked earliest (Ticks n) line) (Ticks n) to) ≡ found l next
+      → WasRead (latest earliest) l s at next line
+  ticks-was l s at next line e =
+      let u = then-found (formed line (fieldAt s at true)) _ e in
+      let c = latestChecked earliest (Ticks (u .value)) line in
+      let w = field-split (u .value) at (u .place) true s (formed-value line (fieldAt s at true) (u .first)) in
+      was-same (latest earliest) (judged-found c _ (u .place) (u .then))
+      (record { bytes = w .text; end = w .end; passed = judged-passed c _ (u .place) (u .then); cleaned = refl })
+
+  latest-was : (l : Latest) (s : List ℕ) (at next line : ℕ) → latest earliest .read s at line ≡ found l next → WasRead (latest earliest) l s at next line
+  latest-was l s at next line = go (beginsWith infLine (drop at s)) refl
+    where
+      go : (t : Bool) → beginsWith infLine (drop at s) ≡ t
+          → cond t (found Unbounded (at + length infLine)) (andThen (formed line (fieldAt s at true)) (λ n to. judged (latestChecked earliest (Ticks n) line) (Ticks n) to)) ≡ found l next
+          → WasRead (latest earliest) l s at next line
+      go true t e = was-same (latest earliest) e (word-was (latest earliest) Unbounded s at line refl refl t)
+      go false t e = ticks-was l s at next line e
+
+  pub latest-inverse : Inverse (latest earliest)
+  latest-inverse = record { read-written = latest-back; written-read = latest-was }
+
+  pub latest-settled : Settled (latest earliest)
+  latest-settled = record { same-text = λ l. refl; same-lines = λ l. refl; same-check = λ l line. refl }
+
+  latest-near : (l : Latest) (s : List ℕ) (at next line : ℕ) → latest earliest .read s at line ≡ found l next → next ≤ at + 10
+  latest-near l s at next line = go (beginsWith infLine (drop at s))
+    where
+      go : (t : Bool) → cond t (found Unbounded (at + length infLine)) (andThen (formed line (fieldAt s at true)) (λ n to. judged (latestChecked earliest (Ticks n) line) (Ticks n) to)) ≡ found l next
+          → next ≤ at + 10
+      go true e = omega (arith, found-place e)
+      go false e =
+          let u = then-found (formed line (fieldAt s at true)) _ e in
+          let h = field-near (u .value) at (u .place) true s (formed-value line (fieldAt s at true) (u .first)) in
+          omega (arith, h .0, found-place (judged-found (latestChecked earliest (Ticks (u .value)) line) _ (u .place) (u .then)))
+
+  pub latest-reaches : Reaches (latest earliest) 10
+  latest-reaches =
+      record {
+        near = latest-near;
+        prefix = λ s k at line h. rw (begins-take infLine s k at (omega arith), field-take k at true s h) refl;
+      }
+
+-- the lines of a transition
+module _ (places : ℕ) where
+  weights-inverse : Inverse (weights places)
+  weights-inverse =
+      let i = items-inverse places 16 0 255 (lit< tt) in
+      chain-inverse _ _ (λ l. refl)
+      (keyed-inverse takeKey _ i)
+      (keyed-settled takeKey _ (items-settled places 16 0 255))
+      (λ l line p. keyed-inverse giveKey _ i)
+
+  weights-settled : Settled (weights places)
+  weights-settled =
+      let w = items-settled places 16 0 255 in
+      chain-settled _ _ (λ l. refl)
+      (keyed-settled takeKey _ w)
+      (λ l. keyed-settled giveKey _ w)
+
+  weights-reaches : places ≤ 16 → Reaches (weights places) 330
+  weights-reaches h =
+      let w : Reaches (items places 16 0 255) 160 = reaches-more (omega arith) (items-reaches places 16 0 255) in
+      chain-reaches _ _
+      (keyed-reaches takeKey _ w)
+      (λ l s at next line e. keyed-reaches giveKey _ w)
+
+  interval-inverse : (earliest : ℕ) → Inverse (chain (keyed latestKey (latest earliest)) (λ _. weights places))
+  interval-inverse earliest =
+      chain-inverse _ _ (λ l. refl)
+      (keyed-inverse latestKey _ (latest-inverse earliest))
+      (keyed-settled latestKey _ (latest-settled earliest))
+      (λ l line p. weights-inverse)
+
+  interval-settled : (earliest : ℕ) → Settled (chain (keyed latestKey (latest earliest)) (λ _. weights places))
+  interval-settled earliest =
+      chain-settled _ _ (λ l. refl)
+      (keyed-settled latestKey _ (latest-settled earliest))
+      (λ l. weights-settled)
+
+  interval-reaches : places ≤ 16 → (earliest : ℕ) → Reaches (chain (keyed latestKey (latest earliest)) (λ _. weights places)) 347
+  interval-reaches h earliest =
+      chain-reaches _ _
+      (keyed-reaches latestKey _ (latest-reaches earliest))
+      (λ l s at next line e. weights-reaches h)
+
+  pub transition-inverse : Inverse (transition places)
+  transition-inverse =
+      held-inverse toTransition fromTransition (λ v. refl)
+      (chain-inverse _ _ (λ n. refl)
+      (ranged-inverse earliestKey 0 1000 (lit< tt))
+      (ranged-settled earliestKey 0 1000)
+      (λ n line p. interval-inverse n))
+
+  pub transition-settled : Settled (transition places)
+  transition-settled =
+      held-settled toTransition fromTransition (λ v. refl)
+      (chain-settled _ _ (λ n. refl)
+      (ranged-settled earliestKey 0 1000)
+      interval-settled)
+
+  pub transition-reaches : places ≤ 16 → Reaches (transition places) 366
+  transition-reaches h =
+      held-reaches toTransition fromTransition
+      (chain-reaches _ _
+      (number-line-reaches earliestKey (ranged 0 1000))
+      (λ n s at next line e. interval-reaches h n))
+
+-- the lines behind the counts
+module _ (places transitions : ℕ) where
+  starts-settled : Settled (starts places)
+  starts-settled = times-settled places 16 0 _ (ranged-settled startKey 0 255)
+
+  body-inverse : Inverse (body places transitions)
+  body-inverse =
+      chain-inverse _ _ (λ l. refl)
+      (times-inverse places 16 0 _ (ranged-inverse startKey 0 255 (lit< tt)) (ranged-settled startKey 0 255))
+      starts-settled
+      (λ l line p. times-inverse transitions 32 noTransition _ (transition-inverse places) (transition-settled places))
+
+  body-settled : Settled (body places transitions)
+  body-settled = chain-settled _ _ (λ l. refl) starts-settled (λ l. times-settled transitions 32 noTransition _ (transition-settled places))
+
+  body-reaches : places ≤ 16 → transitions ≤ 32 → Reaches (body places transitions) 11968
+  body-reaches h h′ =
+      let w : Reaches (starts places) 256 = reaches-more (omega arith) (times-reaches places 16 0 _ (number-line-reaches startKey (ranged 0 255))) in
+      let w′ : Reaches (table places transitions) 11712 = reaches-more (omega arith) (times-reaches transitions 32 noTransition _ (transition-reaches places h)) in
+      chain-reaches _ _ w (λ l s at next line e. w′)
+
+counted-inverse : (places : ℕ) → Inverse (chain (keyed transitionsKey (number (ranged 1 32))) (λ transitions. body places transitions))
+counted-inverse places =
+    chain-inverse _ _ (λ n. refl)
+    (ranged-inverse transitionsKey 1 32 (lit< tt))
+    (ranged-settled transitionsKey 1 32)
+    (λ n line p. body-inverse places n)
+
+counted-settled : (places : ℕ) → Settled (chain (keyed transitionsKey (number (ranged 1 32))) (λ transitions. body places transitions))
+counted-settled places = chain-settled _ _ (λ n. refl) (ranged-settled transitionsKey 1 32) (λ n. body-settled places n)
+
+counted-reaches : (places : ℕ) → places ≤ 16 → Reaches (chain (keyed transitionsKey (number (ranged 1 32))) (λ transitions. body places transitions)) 11990
+counted-reaches places h =
+    chain-reaches _ _
+    (number-line-reaches transitionsKey (ranged 1 32))
+    (λ n s at next line e. body-reaches places n h (ranged-read transitionsKey 1 32 (lit< tt) n s at next line e .1))
+
+pub net-inverse : Inverse netCard
+net-inverse =
+    held-inverse toNet fromNet (λ v. refl)
+    (chain-inverse _ _ (λ n. refl)
+    (ranged-inverse placesKey 1 16 (lit< tt))
+    (ranged-settled placesKey 1 16)
+    (λ n line p. counted-inverse n))
+
+pub net-settled : Settled netCard
+net-settled = held-settled toNet fromNet (λ v. refl) (chain-settled _ _ (λ n. refl) (ranged-settled placesKey 1 16) counted-settled)
+
+-- as many bytes as a reading of a net card looks at
+abbrev pub netReach : ℕ
+netReach = 12007
+
+pub net-reaches : Reaches netCard netReach
+net-reaches =
+    held-reaches toNet fromNet
+    (chain-reaches _ _
+    (number-line-reaches placesKey (ranged 1 16))
+    (λ n s at next line e. counted-reaches n (ranged-read placesKey 1 16 (lit< tt) n s at next line e .1)))
+
+-- what was written is read back, up to the slots past the counts, and reading stops at the rest
+pub net-read-back : (n : Net) (rest : List ℕ) → netCard .check n 1 ≡ Passed
+    → netCard .read (netCard .text n ++ rest) 0 1 ≡ found (netCard .clean n) (length (netCard .text n))
+net-read-back = read-back net-inverse
+
+-- what was read and is written again gives its bytes back
+pub net-written-again : {n : Net} {next : ℕ} (s : List ℕ) → netCard .read s 0 1 ≡ found n next → s ≡ netCard .text n ++ drop next s
+net-written-again = written-again net-inverse
+
+-- the check lets pass exactly the nets that are read back
+pub net-passes-exactly : (n : Net) (rest : List ℕ)
+    → (netCard .check n 1 ≡ Passed) ↔ (netCard .read (netCard .text n ++ rest) 0 1 ≡ found (netCard .clean n) (length (netCard .text n)))
+net-passes-exactly = passes-exactly net-inverse net-settled
+
+-- a program whose buffer holds the first k bytes loses nothing
+pub net-prefix : (s : List ℕ) (k : ℕ) → netReach ≤ k → netCard .read (take k s) 0 1 ≡ netCard .read s 0 1
+net-prefix s k h = net-reaches .prefix s k 0 1 (omega arith)
+
+pub net-short : (n : Net) → netCard .check n 1 ≡ Passed → length (netCard .text n) ≤ netReach
+net-short = text-short net-inverse net-reaches
+
+-- the counts of a net that passes its check
+pub net-places : (n : Net) → netCard .check n 1 ≡ Passed → (1 ≤ n .places) × (n .places ≤ 16)
+net-places n p = ranged-within 1 16 (n .places) 1 (also-first (ranged 1 16 (n .places) 1) _ p)
+
+pub net-transitions : (n : Net) → netCard .check n 1 ≡ Passed → (1 ≤ n .transitions) × (n .transitions ≤ 32)
+net-transitions n p =
+    ranged-within 1 32 (n .transitions) 2
+    (also-first (ranged 1 32 (n .transitions) 2) _ (also-second (ranged 1 16 (n .places) 1) _ p))
+
+-- what is no part of a net lies in its arrays alone
+pub net-clean : (n : Net) → (netCard .clean n .places ≡ n .places) × (netCard .clean n .transitions ≡ n .transitions)
+net-clean n = (refl, refl)
+
+-- a card that was written is the text of a value that passed
+pub written-answer : (c : Checked) (text : List ℕ) {bytes : List ℕ} → writtenIf c text ≡ answer bytes → (c ≡ Passed) × (text ≡ bytes)
+written-answer Passed text e = (refl, cc)
+written-answer (Refused r) text e = let z : _≡_ {A = ℕ} 0 1 = cc in absurd (omega arith)
+
+-- the same of the operations: what was written is read back, and what was read is written again
+pub net-text-back : (n : Net) (bytes rest : List ℕ) → netText n ≡ answer bytes → netCard .read (bytes ++ rest) 0 1 ≡ found (netCard .clean n) (length bytes)
+net-text-back n bytes rest e =
+    let w = written-answer (netCard .check n 1) (netCard .text n) e in
+    subst (λ (t : List ℕ). netCard .read (t ++ rest) 0 1 ≡ found (netCard .clean n) (length t)) (w .1) (net-read-back n rest (w .0))
+
+pub net-text-again : (n : Net) (next : ℕ) (s : List ℕ) → netCard .read s 0 1 ≡ found n next → netText n ≡ answer (take next s)
+net-text-again n next s e =
+    let w = net-inverse .written-read n s 0 next 1 e in
+    let t : take next s ≡ netCard .text n = ap (λ (l : List ℕ). take next l) (w .bytes) ∙ take-at (netCard .text n) (drop next s) next (omega (arith, w .end)) in
+    rw (w .passed, t) refl

@@ -1,0 +1,68 @@
+-- The texts of the parts that a transition and a net are written in, the state of the loop that writes the transitions of an array, and the
+-- reply with a card: a net that passes its check has a card that fits the buffer.
+use Prim.Native.Nat.{ℕ, _+_, _≤_, _<_}
+use native.Mathlib.Omega.{arith}
+use mathlib.Core.Path.{_≡_, refl}
+use mathlib.Core.Bool.{true}
+use mathlib.Core.List.{List, _++_}
+use lib.ListN.{length, getD}
+use Rattle.laws.specs.Slots.{firstOf, getD-within}
+use Rattle.laws.specs.Splice.{Wrote}
+use Rattle.reply.specs.declared.Refusal.{Refusal}
+use Rattle.reply.specs.declared.Checked.the-variants.{Passed}
+use Rattle.reply.specs.declared.Checked.the-variants as checked
+use Rattle.reply.specs.declared.Reply.{Reply}
+use Rattle.reply.specs.declared.Reply.the-variants.{Refused}
+use Rattle.reply.specs.Respond.{Responded, answer}
+use Rattle.text.specs.Decimal.{field}
+use Rattle.form.specs.Line.{itemsText}
+use Rattle.form.proofs.Loops.{Writing, writing-room, writing-more}
+use Rattle.net.specs.declared.Transition.{Transition}
+use Rattle.net.specs.declared.Net.{Net}
+use Rattle.net.specs.Keys.{placesKey, transitionsKey, earliestKey, latestKey, takeKey, giveKey}
+use Rattle.net.specs.Net.{latestText, transition, noTransition, table, netCard}
+use Rattle.net.specs.Code.{netText}
+use Rattle.net.proofs.Card.{net-short, net-places, net-transitions}
+
+-- ---- the four lines of a transition
+abbrev pub earliestText : Transition → List ℕ
+earliestText t = earliestKey ++ field (t .earliest) true
+
+abbrev pub latestLineText : Transition → List ℕ
+latestLineText t = latestKey ++ latestText (t .latest)
+
+abbrev pub takeText : ℕ → Transition → List ℕ
+takeText places t = takeKey ++ itemsText (firstOf places 0 (t .take))
+
+abbrev pub giveText : ℕ → Transition → List ℕ
+giveText places t = giveKey ++ itemsText (firstOf places 0 (t .give))
+
+-- ---- the two lines with the counts of a net
+abbrev pub placesText : Net → List ℕ
+placesText n = placesKey ++ field (n .places) true
+
+abbrev pub transitionsText : Net → List ℕ
+transitionsText n = transitionsKey ++ field (n .transitions) true
+
+-- ---- the transitions of an array; d is what stands past its end
+module _ (places : ℕ) {transitions : ℕ} {l : List Transition} {out₀ : List ℕ} {at : ℕ} {out : List ℕ} {i to : ℕ}
+    (room : at + length (table places transitions .text l) ≤ length out₀) (w : Writing (transition places) transitions noTransition l out₀ at out i to) (h : i < transitions)
+    (d : Transition) (long : i < length l) where
+  pub transition-room : to + length (transition places .text (getD l i d)) ≤ length out
+  transition-room = rw (getD-within l i d noTransition long) (writing-room room w h)
+
+  pub transition-wrote : {to′ : ℕ} {out′ : List ℕ} → Wrote out to (transition places .text (getD l i d)) to′ out′
+      → Writing (transition places) transitions noTransition l out₀ at out′ (i + 1) to′
+  transition-wrote v = writing-more room w h (rw (getD-within l i d noTransition long) at v)
+
+-- ---- the reply with a card
+pub answered : (n : Net) {s : List ℕ} {r : Reply} {out : List ℕ} → netCard .check n 1 ≡ Passed → {bytes : List ℕ} → bytes ≡ netCard .text n → Responded (answer bytes) s r out
+    → Responded (netText n) s r out
+answered n p e v = rw p (rw e at v)
+
+pub net-refused : (n : Net) (s : List ℕ) {r : Refusal} → netCard .check n 1 ≡ checked.Refused r → Responded (netText n) s (Refused r) s
+net-refused n s p = rw p (record { reply = refl; output = refl })
+
+-- a card fits into a buffer of 12,288 bytes
+pub card-fits : (n : Net) → netCard .check n 1 ≡ Passed → (n .places ≤ 16) × (n .transitions ≤ 32) × (0 + length (netCard .text n) ≤ 12288)
+card-fits n p = (net-places n p .1, net-transitions n p .1, omega (arith, net-short n p))

@@ -1,0 +1,112 @@
+-- The counts are checked, and then the parts that they bound, in the order of the card; the first refusal is the answer.
+use native.Mathlib.Omega.{arith}
+use mathlib.Core.Path.{sym, _∙_}
+use borrow.Author.Needs.{needs}
+use Rattle.form.proofs.Lines.{ranged-within}
+use Rattle.net.proofs.Check.{places-fail, transitions-fail, starts-fail, table-decides}
+use Rattle.net.proofs.check_net.Statement.{statement}
+use Rattle.net.proofs.check_net.Tie as tie
+
+check-range-requires : tie.Need-check-range-requires
+check-range-requires c κs = search needs
+
+enum-told : tie.Need-enum-told
+enum-told c = search needs
+
+enum-told-2 : tie.Need-enum-told-2
+enum-told-2 c = search needs
+
+returns : tie.Need-returns
+returns c =
+    let p = c .before .before in
+    c .enum-told2 .given .1 ∙ places-fail (p .before .args .net) (sym (p .check-range .ensures) ∙ c .enum-told2 .given .1)
+
+check-range-requires-2 : tie.Need-check-range-requires-2
+check-range-requires-2 c κs = search needs
+
+enum-told-3 : tie.Need-enum-told-3
+enum-told-3 c = search needs
+
+enum-told-4 : tie.Need-enum-told-4
+enum-told-4 c = search needs
+
+returns-2 : tie.Need-returns-2
+returns-2 c =
+    let q = c .before .before in
+    let t = q .before in
+    let p = t .before .before in
+    c .enum-told4 .given .1 ∙
+    transitions-fail (p .before .args .net) (sym (p .check-range .ensures) ∙ t .enum-told .given .1) (sym (q .check-range2 .ensures) ∙ c .enum-told4 .given .1)
+
+check-start-requires : tie.Need-check-start-requires
+check-start-requires c κs =
+    let t = c .before .before .before .before in
+    let p = t .before .before in
+    omega (arith, ranged-within 1 16 (p .before .args .net .places) 1 (sym (p .check-range .ensures) ∙ t .enum-told .given .1))
+
+enum-told-5 : tie.Need-enum-told-5
+enum-told-5 c = search needs
+
+enum-told-6 : tie.Need-enum-told-6
+enum-told-6 c = search needs
+
+returns-3 : tie.Need-returns-3
+returns-3 c =
+    let k = c .before .before in
+    let m = k .before .before in
+    let q = m .before .before in
+    let t = q .before in
+    let p = t .before .before in
+    c .enum-told6 .given .1 ∙
+    starts-fail (p .before .args .net) (sym (p .check-range .ensures) ∙ t .enum-told .given .1) (sym (q .check-range2 .ensures) ∙ m .enum-told3 .given .1)
+    (sym (k .check-start .ensures) ∙ c .enum-told6 .given .1)
+
+add-check-table : tie.Need-add-check-table
+add-check-table c =
+    let t = c .before .before .before .before .before .before .before .before in
+    let p = t .before .before in
+    omega (arith, ranged-within 1 16 (p .before .args .net .places) 1 (sym (p .check-range .ensures) ∙ t .enum-told .given .1))
+
+check-table-requires : tie.Need-check-table-requires
+check-table-requires c κs =
+    let m = c .before .before .before .before .before in
+    let q = m .before .before in
+    let t = q .before in
+    let p = t .before .before in
+    omega (
+      arith,
+      ranged-within 1 16 (p .before .args .net .places) 1 (sym (p .check-range .ensures) ∙ t .enum-told .given .1),
+      ranged-within 1 32 (p .before .args .net .transitions) 2 (sym (q .check-range2 .ensures) ∙ m .enum-told3 .given .1),
+    )
+
+returns-4 : tie.Need-returns-4
+returns-4 c =
+    let n = c .before .before in
+    let k = n .before .before in
+    let m = k .before .before in
+    let q = m .before .before in
+    let t = q .before in
+    let p = t .before .before in
+    c .check-table .ensures ∙
+    table-decides (p .before .args .net) (sym (p .check-range .ensures) ∙ t .enum-told .given .1) (sym (q .check-range2 .ensures) ∙ m .enum-told3 .given .1)
+    (sym (k .check-start .ensures) ∙ n .enum-told5 .given .1)
+
+pub check-net-spec : {M : Type 1} → statement M
+check-net-spec =
+    tie.close
+    (tie.spec
+    check-range-requires
+    enum-told
+    enum-told-2
+    returns
+    check-range-requires-2
+    enum-told-3
+    enum-told-4
+    returns-2
+    check-start-requires
+    enum-told-5
+    enum-told-6
+    returns-3
+    add-check-table
+    check-table-requires
+    returns-4)

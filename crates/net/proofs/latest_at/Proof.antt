@@ -1,0 +1,90 @@
+-- The word, or a number that is checked: each way out is one case of the form.
+use native.Mathlib.Omega.{arith}
+use mathlib.Core.Path.{sym, _∙_}
+use borrow.Author.Needs.{needs}
+use Rattle.text.proofs.KeyLaws.{begins-split}
+use Rattle.net.specs.Keys.{infLine}
+use Rattle.net.proofs.Read.{word-read, ticks-missing, ticks-refused, ticks-read}
+use Rattle.net.proofs.latest_at.Statement.{statement}
+use Rattle.net.proofs.latest_at.Tie as tie
+
+slice-aggregate-begins-at : tie.Need-slice-aggregate-begins-at
+slice-aggregate-begins-at c = search needs
+
+begins-at-requires : tie.Need-begins-at-requires
+begins-at-requires c κs = search needs
+
+add-t15 : tie.Need-add-t15
+add-t15 c =
+    let b = c .before in
+    let a = b .before .before .before .args in
+    omega (arith, begins-split infLine (a .s .now) (a .at) (sym (b .begins-at .ensures) ∙ c .if1 .taken) .1)
+
+returns : tie.Need-returns
+returns c =
+    let b = c .before in
+    let a = b .before .before .before .args in
+    word-read (a .earliest) (a .s .now) (a .at) (a .line) (sym (b .begins-at .ensures) ∙ c .if1 .taken)
+
+field-at-requires : tie.Need-field-at-requires
+field-at-requires c κs = search needs
+
+enum-told : tie.Need-enum-told
+enum-told c = search needs
+
+enum-known-n : tie.Need-enum-known-n
+enum-known-n c = search needs
+
+check-latest-requires : tie.Need-check-latest-requires
+check-latest-requires c κs = search needs
+
+enum-known-c : tie.Need-enum-known-c
+enum-known-c c = search needs
+
+enum-told-2 : tie.Need-enum-told-2
+enum-told-2 c = search needs
+
+returns-2 : tie.Need-returns-2
+returns-2 c =
+    let f = c .before .before in
+    let b = f .before .before in
+    let a = b .before .before .before .args in
+    ticks-missing (a .earliest) (a .s .now) (a .at) (a .line) (sym (b .begins-at .ensures) ∙ f .before .if1 .left) (sym (f .field-at .ensures) ∙ c .enum-told .given .1)
+
+returns-3 : tie.Need-returns-3
+returns-3 c =
+    let k = c .before .before .before in
+    let n = k .before .before in
+    let f = n .before .before in
+    let b = f .before .before in
+    let a = b .before .before .before .args in
+    ticks-refused (a .earliest) (a .s .now) (a .at) (a .line) (sym (b .begins-at .ensures) ∙ f .before .if1 .left) _ _ _ (sym (f .field-at .ensures) ∙ n .n .given .1)
+    (sym (k .check-latest .ensures) ∙ c .before .c .given .1)
+
+returns-4 : tie.Need-returns-4
+returns-4 c =
+    let k = c .before .before in
+    let n = k .before .before in
+    let f = n .before .before in
+    let b = f .before .before in
+    let a = b .before .before .before .args in
+    ticks-read (a .earliest) (a .s .now) (a .at) (a .line) (sym (b .begins-at .ensures) ∙ f .before .if1 .left) _ _ (sym (f .field-at .ensures) ∙ n .n .given .1)
+    (sym (k .check-latest .ensures) ∙ c .enum-told2 .given .1)
+
+pub latest-at-spec : {M : Type 1} → statement M
+latest-at-spec =
+    tie.close
+    (tie.spec
+    slice-aggregate-begins-at
+    begins-at-requires
+    add-t15
+    returns
+    field-at-requires
+    enum-told
+    enum-known-n
+    check-latest-requires
+    enum-known-c
+    enum-told-2
+    returns-2
+    returns-3
+    returns-4)

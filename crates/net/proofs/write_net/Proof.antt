@@ -1,0 +1,67 @@
+-- A refused net is answered by its refusal; the card of one that passes fits the buffer, and its bytes are the answer.
+use mathlib.Core.Path.{sym, _∙_}
+use borrow.Author.Needs.{needs}
+use Rattle.laws.specs.Front.{front-within, front-text, front-length}
+use Rattle.net.proofs.Write.{answered, net-refused, card-fits}
+use Rattle.net.proofs.write_net.Statement.{statement}
+use Rattle.net.proofs.write_net.Tie as tie
+
+check-net-requires : tie.Need-check-net-requires
+check-net-requires c κs = search needs
+
+enum-known-c : tie.Need-enum-known-c
+enum-known-c c = search needs
+
+enum-told : tie.Need-enum-told
+enum-told c = search needs
+
+slice-aggregate-put-net : tie.Need-slice-aggregate-put-net
+slice-aggregate-put-net c = search needs
+
+put-net-requires : tie.Need-put-net-requires
+put-net-requires c κs =
+    let t = c .before in
+    let k = t .before .before in
+    card-fits (k .before .before .args .net) (sym (k .check-net .ensures) ∙ t .enum-told .given .1)
+
+array-share-prefix-card : tie.Need-array-share-prefix-card
+array-share-prefix-card c = front-within (c .before .put-net .ensures)
+
+slice-aggregate-respond : tie.Need-slice-aggregate-respond
+slice-aggregate-respond c = front-length (c .before .before .put-net .ensures)
+
+respond-requires : tie.Need-respond-requires
+respond-requires c κs = search needs
+
+returns : tie.Need-returns
+returns c =
+    let k = c .before .before .before in
+    let a = k .before .before .args in
+    net-refused (a .net) (a .out .now) (sym (k .check-net .ensures) ∙ c .before .c .given .1)
+
+same-length : tie.Need-same-length
+same-length c = search needs
+
+returns-2 : tie.Need-returns-2
+returns-2 c =
+    let f = c .before .before in
+    let p = f .before .before .before .before in
+    let t = p .before .before in
+    let k = t .before .before in
+    answered (k .before .before .args .net) (sym (k .check-net .ensures) ∙ t .enum-told .given .1) (front-text (p .put-net .ensures)) (f .respond .ensures)
+
+pub write-net-spec : {M : Type 1} → statement M
+write-net-spec =
+    tie.close
+    (tie.spec
+    check-net-requires
+    enum-known-c
+    enum-told
+    slice-aggregate-put-net
+    put-net-requires
+    array-share-prefix-card
+    slice-aggregate-respond
+    respond-requires
+    returns
+    same-length
+    returns-2)
