@@ -1,0 +1,4 @@
+pub mod Card
+pub mod Check
+pub mod Read
+pub mod Write

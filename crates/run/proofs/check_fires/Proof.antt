@@ -1,0 +1,82 @@
+-- The loop keeps the state of the check (`Checking`); a refused line refuses all, and at the end all pass.
+use Prim.Native.Nat.{_+_, _-_}
+use mathlib.Core.Path.{sym, _∙_}
+use borrow.Author.Needs.{needs}
+use Rattle.form.proofs.Loops.{Checking, checking-refused, checking-done}
+use Rattle.run.specs.Run.{fire}
+use Rattle.run.proofs.Check.{fires-checks, fires-passed}
+use Rattle.run.proofs.check_fires.Statement.{statement}
+use Rattle.run.proofs.check_fires.Tie as tie
+
+abbrev Inv-loop : tie.InvT-loop
+Inv-loop transitions count line fires i₀ i = Checking (fire transitions) count 0 fires line i (line + i)
+
+abbrev μ-loop : tie.MeasureT-loop
+μ-loop transitions count line fires i₀ i = count - i
+
+loop-holds : tie.Need-loop-holds Inv-loop μ-loop
+loop-holds c =
+    let a = c .args in
+    fires-checks (a .transitions) (a .count) (a .t1) (a .line)
+
+mul-check-listed : tie.Need-mul-check-listed Inv-loop μ-loop
+mul-check-listed c = search needs
+
+array-read-check-listed : tie.Need-array-read-check-listed Inv-loop μ-loop
+array-read-check-listed c = search needs
+
+cast-check-listed : tie.Need-cast-check-listed Inv-loop μ-loop
+cast-check-listed c = search needs
+
+add-check-listed : tie.Need-add-check-listed Inv-loop μ-loop
+add-check-listed c = search needs
+
+check-listed-requires : tie.Need-check-listed-requires Inv-loop μ-loop
+check-listed-requires c κs = search needs
+
+enum-told : tie.Need-enum-told Inv-loop μ-loop
+enum-told c = search needs
+
+enum-told-2 : tie.Need-enum-told-2 Inv-loop μ-loop
+enum-told-2 c = search needs
+
+returns : tie.Need-returns Inv-loop μ-loop
+returns c =
+    let f = c .before .before in
+    c .enum-told2 .given .1 ∙ sym (checking-refused (f .before .before .loop .inv) (f .before .loop-test .taken) (sym (f .check-listed .ensures) ∙ c .enum-told2 .given .1))
+
+add-i : tie.Need-add-i Inv-loop μ-loop
+add-i c = search needs
+
+loop-less : tie.Need-loop-less Inv-loop μ-loop
+loop-less c = search needs
+
+loop-again : tie.Need-loop-again Inv-loop μ-loop
+loop-again c =
+    let f = c .before .before in
+    let b = f .before .before in
+    let a = b .before .args in
+    fires-passed (a .transitions) (a .count) (a .t1) (a .line) (b .loop .inv) (f .before .loop-test .taken) (sym (f .check-listed .ensures) ∙ c .enum-told .given .1)
+
+returns-2 : tie.Need-returns-2 Inv-loop μ-loop
+returns-2 c = sym (checking-done (c .before .loop .inv) (c .loop-test .left))
+
+pub check-fires-spec : {M : Type 1} → statement M
+check-fires-spec =
+    tie.close
+    (tie.spec
+    Inv-loop
+    μ-loop
+    loop-holds
+    mul-check-listed
+    array-read-check-listed
+    cast-check-listed
+    add-check-listed
+    check-listed-requires
+    enum-told
+    enum-told-2
+    returns
+    add-i
+    loop-less
+    loop-again
+    returns-2)

@@ -1,0 +1,82 @@
+-- The loop keeps the state of the check (`Checking`); a refused firing refuses all, and at the end all pass.
+use Prim.Native.Nat.{_+_, _*_, _-_}
+use mathlib.Core.Path.{sym, _∙_}
+use borrow.Author.Needs.{needs}
+use Rattle.form.proofs.Loops.{Checking, checking-refused, checking-done}
+use Rattle.run.specs.Run.{firing, noFiring}
+use Rattle.run.proofs.Check.{firings-checks, firings-passed}
+use Rattle.run.proofs.check_firings.Statement.{statement}
+use Rattle.run.proofs.check_firings.Tie as tie
+
+abbrev Inv-loop : tie.InvT-loop
+Inv-loop transitions count line firings i₀ i = Checking (firing transitions) count noFiring firings line i (line + 2 * i)
+
+abbrev μ-loop : tie.MeasureT-loop
+μ-loop transitions count line firings i₀ i = count - i
+
+loop-holds : tie.Need-loop-holds Inv-loop μ-loop
+loop-holds c =
+    let a = c .args in
+    firings-checks (a .transitions) (a .count) (a .t1) (a .line)
+
+mul-check-firing : tie.Need-mul-check-firing Inv-loop μ-loop
+mul-check-firing c = search needs
+
+array-copy-out-check-firing : tie.Need-array-copy-out-check-firing Inv-loop μ-loop
+array-copy-out-check-firing c = search needs
+
+mul-check-firing-2 : tie.Need-mul-check-firing-2 Inv-loop μ-loop
+mul-check-firing-2 c = search needs
+
+add-check-firing : tie.Need-add-check-firing Inv-loop μ-loop
+add-check-firing c = search needs
+
+check-firing-requires : tie.Need-check-firing-requires Inv-loop μ-loop
+check-firing-requires c κs = search needs
+
+enum-told : tie.Need-enum-told Inv-loop μ-loop
+enum-told c = search needs
+
+enum-told-2 : tie.Need-enum-told-2 Inv-loop μ-loop
+enum-told-2 c = search needs
+
+returns : tie.Need-returns Inv-loop μ-loop
+returns c =
+    let f = c .before .before in
+    c .enum-told2 .given .1 ∙ sym (checking-refused (f .before .before .before .loop .inv) (f .before .before .loop-test .taken) (sym (f .check-firing .ensures) ∙ c .enum-told2 .given .1))
+
+add-i : tie.Need-add-i Inv-loop μ-loop
+add-i c = search needs
+
+loop-less : tie.Need-loop-less Inv-loop μ-loop
+loop-less c = search needs
+
+loop-again : tie.Need-loop-again Inv-loop μ-loop
+loop-again c =
+    let f = c .before .before in
+    let b = f .before .before .before in
+    let a = b .before .args in
+    firings-passed (a .transitions) (a .count) (a .t1) (a .line) (b .loop .inv) (f .before .before .loop-test .taken) (sym (f .check-firing .ensures) ∙ c .enum-told .given .1)
+
+returns-2 : tie.Need-returns-2 Inv-loop μ-loop
+returns-2 c = sym (checking-done (c .before .loop .inv) (c .loop-test .left))
+
+pub check-firings-spec : {M : Type 1} → statement M
+check-firings-spec =
+    tie.close
+    (tie.spec
+    Inv-loop
+    μ-loop
+    loop-holds
+    mul-check-firing
+    array-copy-out-check-firing
+    mul-check-firing-2
+    add-check-firing
+    check-firing-requires
+    enum-told
+    enum-told-2
+    returns
+    add-i
+    loop-less
+    loop-again
+    returns-2)

@@ -1,0 +1,57 @@
+-- Each word is tested as the definition tests it; where it stands the position behind it lies within the input.
+use mathlib.Core.Path.{refl, sym, _∙_}
+use native.Mathlib.Omega.{arith}
+use borrow.Author.Needs.{needs}
+use Rattle.text.proofs.KeyLaws.{begins-split}
+use Rattle.run.specs.Keys.{intermediateLine, atomicLine}
+use Rattle.run.proofs.memory_at.Statement.{statement}
+use Rattle.run.proofs.memory_at.Tie as tie
+
+slice-aggregate-begins-at : tie.Need-slice-aggregate-begins-at
+slice-aggregate-begins-at c = search needs
+
+begins-at-requires : tie.Need-begins-at-requires
+begins-at-requires c κs = search needs
+
+add-t10 : tie.Need-add-t10
+add-t10 c =
+    let a = c .before .before .before .before .args in
+    omega (arith, begins-split intermediateLine (a .s .now) (a .at) (sym (c .before .begins-at .ensures) ∙ c .if1 .taken) .1)
+
+returns : tie.Need-returns
+returns c = rw (sym (c .before .begins-at .ensures) ∙ c .if1 .taken) refl
+
+slice-aggregate-begins-at-2 : tie.Need-slice-aggregate-begins-at-2
+slice-aggregate-begins-at-2 c = search needs
+
+begins-at-requires-2 : tie.Need-begins-at-requires-2
+begins-at-requires-2 c κs = search needs
+
+add-t15 : tie.Need-add-t15
+add-t15 c =
+    let a = c .before .before .before .before .before .before .before .args in
+    omega (arith, begins-split atomicLine (a .s .now) (a .at) (sym (c .before .begins-at2 .ensures) ∙ c .if2 .taken) .1)
+
+returns-2 : tie.Need-returns-2
+returns-2 c =
+    let i = c .before .before .before in
+    rw (sym (i .before .begins-at .ensures) ∙ i .if1 .left, sym (c .before .begins-at2 .ensures) ∙ c .if2 .taken) refl
+
+returns-3 : tie.Need-returns-3
+returns-3 c =
+    let i = c .before .before .before in
+    rw (sym (i .before .begins-at .ensures) ∙ i .if1 .left, sym (c .before .begins-at2 .ensures) ∙ c .if2 .left) refl
+
+pub memory-at-spec : {M : Type 1} → statement M
+memory-at-spec =
+    tie.close
+    (tie.spec
+    slice-aggregate-begins-at
+    begins-at-requires
+    add-t10
+    returns
+    slice-aggregate-begins-at-2
+    begins-at-requires-2
+    add-t15
+    returns-2
+    returns-3)

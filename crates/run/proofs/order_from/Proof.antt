@@ -1,0 +1,42 @@
+-- The lines `fire` are read, and each way out is one case of that.
+use mathlib.Core.Path.{_∙_}
+use borrow.Author.Needs.{needs}
+use Rattle.run.proofs.Read.{fires-stopped, fires-read}
+use Rattle.run.proofs.order_from.Statement.{statement}
+use Rattle.run.proofs.order_from.Tie as tie
+
+fires-lines-requires : tie.Need-fires-lines-requires
+fires-lines-requires c κs = search needs
+
+enum-known-read : tie.Need-enum-known-read
+enum-known-read c = search needs
+
+refused-order-requires : tie.Need-refused-order-requires
+refused-order-requires c κs = search needs
+
+enum-known-read-2 : tie.Need-enum-known-read-2
+enum-known-read-2 c = search needs
+
+returns : tie.Need-returns
+returns c =
+    let f = c .before .before .before .before in
+    let a = f .before .before .args in
+    c .refused-order .ensures ∙
+    fires-stopped (a .memory) (a .transitions) (a .count) (a .s .now) (a .at) (f .fires-lines .result) (f .fires-lines .ensures) (c .before .before .read .given .1)
+
+returns-2 : tie.Need-returns-2
+returns-2 c =
+    let f = c .before .before .before .before in
+    let a = f .before .before .args in
+    fires-read (a .memory) (a .transitions) (a .count) (a .s .now) (a .at) (f .fires-lines .result) (f .fires-lines .ensures) (c .before .before .read2 .given .1)
+
+pub order-from-spec : {M : Type 1} → statement M
+order-from-spec =
+    tie.close
+    (tie.spec
+    fires-lines-requires
+    enum-known-read
+    refused-order-requires
+    enum-known-read-2
+    returns
+    returns-2)

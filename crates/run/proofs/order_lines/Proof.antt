@@ -1,0 +1,86 @@
+-- The lines are read one behind the other, and each way out is one case of that; a count that was read is at most 64.
+use mathlib.Core.Path.{sym, _∙_}
+use borrow.Author.Needs.{needs}
+use Rattle.run.proofs.Read.{order-no-memory, order-no-count, order-read, count-few}
+use Rattle.run.proofs.order_lines.Statement.{statement}
+use Rattle.run.proofs.order_lines.Tie as tie
+
+memory-line-requires : tie.Need-memory-line-requires
+memory-line-requires c κs = search needs
+
+enum-known-m : tie.Need-enum-known-m
+enum-known-m c = search needs
+
+refused-order-requires : tie.Need-refused-order-requires
+refused-order-requires c κs = search needs
+
+enum-known-m-2 : tie.Need-enum-known-m-2
+enum-known-m-2 c = search needs
+
+slice-aggregate-number-line : tie.Need-slice-aggregate-number-line
+slice-aggregate-number-line c = search needs
+
+number-line-requires : tie.Need-number-line-requires
+number-line-requires c κs = search needs
+
+enum-known-n : tie.Need-enum-known-n
+enum-known-n c = search needs
+
+refused-order-requires-2 : tie.Need-refused-order-requires-2
+refused-order-requires-2 c κs = search needs
+
+enum-known-n-2 : tie.Need-enum-known-n-2
+enum-known-n-2 c = search needs
+
+cast-order-from : tie.Need-cast-order-from
+cast-order-from c = search needs
+
+order-from-requires : tie.Need-order-from-requires
+order-from-requires c κs =
+    let k = c .before .before .before in
+    let g = k .before .before .before in
+    let a = g .before .before .before .before .args in
+    count-few (a .s .now) (g .m2 .given .0 .1 .0) 2 (sym (k .number-line .ensures) ∙ c .before .n2 .given .1)
+
+returns : tie.Need-returns
+returns c =
+    let m = c .before .before .before .before in
+    let a = m .before .before .args in
+    c .refused-order .ensures ∙ order-no-memory (a .transitions) (a .s .now) (sym (m .memory-line .ensures) ∙ c .before .before .m .given .1)
+
+returns-2 : tie.Need-returns-2
+returns-2 c =
+    let k = c .before .before .before .before in
+    let g = k .before .before .before in
+    let m = g .before .before in
+    let a = m .before .before .args in
+    c .refused-order2 .ensures ∙
+    order-no-count (a .transitions) (a .s .now) (sym (m .memory-line .ensures) ∙ g .m2 .given .1) (sym (k .number-line .ensures) ∙ c .before .before .n .given .1)
+
+returns-3 : tie.Need-returns-3
+returns-3 c =
+    let k = c .before .before .before .before in
+    let g = k .before .before .before in
+    let m = g .before .before in
+    let a = m .before .before .args in
+    c .order-from .ensures ∙
+    order-read (a .transitions) (a .s .now) (sym (m .memory-line .ensures) ∙ g .m2 .given .1) (sym (k .number-line .ensures) ∙ c .before .before .n2 .given .1)
+
+pub order-lines-spec : {M : Type 1} → statement M
+order-lines-spec =
+    tie.close
+    (tie.spec
+    memory-line-requires
+    enum-known-m
+    refused-order-requires
+    enum-known-m-2
+    slice-aggregate-number-line
+    number-line-requires
+    enum-known-n
+    refused-order-requires-2
+    enum-known-n-2
+    cast-order-from
+    order-from-requires
+    returns
+    returns-2
+    returns-3)

@@ -1,0 +1,66 @@
+-- The loop keeps the state of the writer (`Writing`): the next line has room behind what was written.
+use Prim.Native.Nat.{_-_}
+use borrow.Author.Needs.{needs}
+use Rattle.form.proofs.Loops.{Writing, writing-start, writing-length, writing-room, writing-more, writing-done}
+use Rattle.run.specs.Run.{fire}
+use Rattle.run.proofs.put_fires.Statement.{statement}
+use Rattle.run.proofs.put_fires.Tie as tie
+
+abbrev Inv-loop : tie.InvT-loop
+Inv-loop out₀ at transitions count fires to₀ i₀ out to i = Writing (fire transitions) count 0 fires out₀ at out i to
+
+abbrev μ-loop : tie.MeasureT-loop
+μ-loop out₀ at transitions count fires to₀ i₀ out to i = count - i
+
+loop-holds : tie.Need-loop-holds Inv-loop μ-loop
+loop-holds c =
+    let a = c .before .args in
+    writing-start (fire (a .transitions)) (a .count) 0 (a .t3) (a .out .now) (a .at)
+
+mul-put-fire-line : tie.Need-mul-put-fire-line Inv-loop μ-loop
+mul-put-fire-line c = search needs
+
+array-read-put-fire-line : tie.Need-array-read-put-fire-line Inv-loop μ-loop
+array-read-put-fire-line c = search needs
+
+put-fire-line-requires : tie.Need-put-fire-line-requires Inv-loop μ-loop
+put-fire-line-requires c κs =
+    let b = c .before .before in
+    writing-room (b .before .before .pre .1) (b .loop .inv) (c .before .loop-test .taken)
+
+add-i : tie.Need-add-i Inv-loop μ-loop
+add-i c = search needs
+
+loop-less : tie.Need-loop-less Inv-loop μ-loop
+loop-less c = search needs
+
+loop-again : tie.Need-loop-again Inv-loop μ-loop
+loop-again c =
+    let f = c .before .before in
+    let t = f .before .before in
+    let b = t .before in
+    writing-more (b .before .before .pre .1) (b .loop .inv) (t .loop-test .taken) (f .put-fire-line .ensures)
+
+same-length : tie.Need-same-length Inv-loop μ-loop
+same-length c =
+    let b = c .before in
+    writing-length (b .before .before .pre .1) (b .loop .inv)
+
+returns : tie.Need-returns Inv-loop μ-loop
+returns c = writing-done (c .before .loop .inv) (c .loop-test .left)
+
+pub put-fires-spec : {M : Type 1} → statement M
+put-fires-spec =
+    tie.close
+    (tie.spec
+    Inv-loop
+    μ-loop
+    loop-holds
+    mul-put-fire-line
+    array-read-put-fire-line
+    put-fire-line-requires
+    add-i
+    loop-less
+    loop-again
+    same-length
+    returns)

@@ -1,0 +1,80 @@
+-- The key is written first and the word of the rule behind it, where there is room for both.
+use borrow.Author.Needs.{needs}
+use Rattle.laws.specs.Room.{room-then, wrote-both}
+use Rattle.run.specs.Keys.{memoryKey}
+use Rattle.run.specs.Run.{memoryText}
+use Rattle.run.proofs.put_memory_line.Statement.{statement}
+use Rattle.run.proofs.put_memory_line.Tie as tie
+
+slice-aggregate-put-bytes : tie.Need-slice-aggregate-put-bytes
+slice-aggregate-put-bytes c = search needs
+
+put-bytes-requires : tie.Need-put-bytes-requires
+put-bytes-requires c κs = search needs
+
+enum-told : tie.Need-enum-told
+enum-told c = search needs
+
+slice-aggregate-put-bytes-2 : tie.Need-slice-aggregate-put-bytes-2
+slice-aggregate-put-bytes-2 c = search needs
+
+put-bytes-requires-2 : tie.Need-put-bytes-requires-2
+put-bytes-requires-2 c κs =
+    let t = c .before .before in
+    let k = t .before .before .before .before in
+    let b = k .before .before .before .before in
+    rw (t .enum-told .given .1) at (room-then (b .args .out .now) (b .args .at) memoryKey (memoryText (b .args .m)) (b .pre) (k .put-bytes .result) (k .put-bytes .last .0) (k .put-bytes .ensures))
+
+enum-told-2 : tie.Need-enum-told-2
+enum-told-2 c = search needs
+
+slice-aggregate-put-bytes-3 : tie.Need-slice-aggregate-put-bytes-3
+slice-aggregate-put-bytes-3 c = search needs
+
+put-bytes-requires-3 : tie.Need-put-bytes-requires-3
+put-bytes-requires-3 c κs =
+    let t = c .before .before in
+    let k = t .before .before .before .before in
+    let b = k .before .before .before .before in
+    rw (t .enum-told2 .given .1) at (room-then (b .args .out .now) (b .args .at) memoryKey (memoryText (b .args .m)) (b .pre) (k .put-bytes .result) (k .put-bytes .last .0) (k .put-bytes .ensures))
+
+same-length : tie.Need-same-length
+same-length c = search needs
+
+returns : tie.Need-returns
+returns c =
+    let w = c .before .before in
+    let t = w .before .before .before in
+    let k = t .before .before .before .before in
+    let b = k .before .before .before .before in
+    wrote-both (b .args .out .now) (b .args .at) memoryKey (memoryText (b .args .m)) (b .pre) (k .put-bytes .result) (k .put-bytes .last .0) (k .put-bytes .ensures)
+    (w .put-bytes2 .result) (w .put-bytes2 .last .0) (rw (t .enum-told .given .1) (w .put-bytes2 .ensures))
+
+same-length-2 : tie.Need-same-length-2
+same-length-2 c = search needs
+
+returns-2 : tie.Need-returns-2
+returns-2 c =
+    let w = c .before .before in
+    let t = w .before .before .before in
+    let k = t .before .before .before .before in
+    let b = k .before .before .before .before in
+    wrote-both (b .args .out .now) (b .args .at) memoryKey (memoryText (b .args .m)) (b .pre) (k .put-bytes .result) (k .put-bytes .last .0) (k .put-bytes .ensures)
+    (w .put-bytes3 .result) (w .put-bytes3 .last .0) (rw (t .enum-told2 .given .1) (w .put-bytes3 .ensures))
+
+pub put-memory-line-spec : {M : Type 1} → statement M
+put-memory-line-spec =
+    tie.close
+    (tie.spec
+    slice-aggregate-put-bytes
+    put-bytes-requires
+    enum-told
+    slice-aggregate-put-bytes-2
+    put-bytes-requires-2
+    enum-told-2
+    slice-aggregate-put-bytes-3
+    put-bytes-requires-3
+    same-length
+    returns
+    same-length-2
+    returns-2)

@@ -1,0 +1,94 @@
+-- Document 01, "Cards": the run card and the order card of a net with so many transitions, line by line.
+use Prim.Native.Nat.{ℕ, _+_}
+use mathlib.Core.Bool.{cond}
+use mathlib.Core.List.{List}
+use lib.ListN.{length, drop}
+use Rattle.reply.specs.declared.Refusal.the-variants.{Malformed}
+use Rattle.reply.specs.declared.Checked.the-variants.{Passed}
+use Rattle.text.specs.Key.{beginsWith}
+use Rattle.form.specs.Form.{Found, found, refused, Form, keyed, chain, times, held}
+use Rattle.form.specs.Line.{ranged, listed, number}
+use Rattle.run.specs.declared.Memory.{Memory}
+use Rattle.run.specs.declared.Memory.the-variants.{Intermediate, Atomic}
+use Rattle.run.specs.declared.Firing.{Firing}
+use Rattle.run.specs.declared.Run.{Run}
+use Rattle.run.specs.declared.Order.{Order}
+use Rattle.run.specs.Keys.{memoryKey, denominatorKey, firingsKey, waitKey, fireKey, restKey, intermediateLine, atomicLine}
+
+-- `memory`: one of the words
+abbrev pub memoryText : Memory → List ℕ
+memoryText Intermediate = intermediateLine
+memoryText Atomic = atomicLine
+
+abbrev pub memory : Form Memory
+memory =
+    record {
+      text = memoryText;
+      lines = λ m. 1;
+      check = λ m line. Passed;
+      read = λ s at line.
+          cond (beginsWith intermediateLine (drop at s)) (found Intermediate (at + length intermediateLine))
+          (cond (beginsWith atomicLine (drop at s)) (found Atomic (at + length atomicLine)) (refused (Malformed line)));
+      clean = λ m. m;
+    }
+
+-- `firings` N (0 to 64)
+abbrev pub firings : Form ℕ
+firings = keyed firingsKey (number (ranged 0 64))
+
+-- `fire`: a transition number; one that is not in the net is 4
+abbrev pub fire : ℕ → Form ℕ
+fire transitions = keyed fireKey (number (listed transitions))
+
+-- waits and rest are 0 to 10,000,000 parts
+abbrev pub parts : List ℕ → Form ℕ
+parts key = keyed key (number (ranged 0 10000000))
+
+-- a firing: `wait` and `fire`
+abbrev pub firingLines : ℕ → Form (ℕ × ℕ)
+firingLines transitions = chain (parts waitKey) (λ _. fire transitions)
+
+abbrev pub toFiring : ℕ × ℕ → Firing
+toFiring v = record { wait = v .0; fire = v .1 }
+
+abbrev pub fromFiring : Firing → ℕ × ℕ
+fromFiring f = (f .wait, f .fire)
+
+abbrev pub firing : ℕ → Form Firing
+firing transitions = held toFiring fromFiring (firingLines transitions)
+
+abbrev pub noFiring : Firing
+noFiring = record { wait = 0; fire = 0 }
+
+-- the firings of a run card, and last `rest`
+abbrev pub steps : ℕ → ℕ → Form (List Firing × ℕ)
+steps transitions count = chain (times count 64 noFiring (firing transitions)) (λ _. parts restKey)
+
+-- a run card: `memory`, `denominator` D (1 to 1,000), `firings`, the firings, `rest`
+abbrev pub runLines : ℕ → Form (Memory × (ℕ × (ℕ × (List Firing × ℕ))))
+runLines transitions =
+    chain (keyed memoryKey memory)
+    (λ _. chain (keyed denominatorKey (number (ranged 1 1000))) (λ _. chain firings (λ count. steps transitions count)))
+
+abbrev pub toRun : Memory × (ℕ × (ℕ × (List Firing × ℕ))) → Run
+toRun v = record { memory = v .0; denominator = v .1 .0; count = v .1 .1 .0; firings = v .1 .1 .1 .0; rest = v .1 .1 .1 .1 }
+
+abbrev pub fromRun : Run → Memory × (ℕ × (ℕ × (List Firing × ℕ)))
+fromRun r = (r .memory, (r .denominator, (r .count, (r .firings, r .rest))))
+
+abbrev pub runCard : ℕ → Form Run
+runCard transitions = held toRun fromRun (runLines transitions)
+
+-- an order card: `memory`, `firings`, then the `fire` lines
+abbrev pub orderLines : ℕ → Form (Memory × (ℕ × List ℕ))
+orderLines transitions =
+    chain (keyed memoryKey memory) (λ _. chain firings (λ count. times count 64 0 (fire transitions)))
+
+abbrev pub toOrder : Memory × (ℕ × List ℕ) → Order
+toOrder v = record { memory = v .0; count = v .1 .0; fires = v .1 .1 }
+
+abbrev pub fromOrder : Order → Memory × (ℕ × List ℕ)
+fromOrder o = (o .memory, (o .count, o .fires))
+
+abbrev pub orderCard : ℕ → Form Order
+orderCard transitions = held toOrder fromOrder (orderLines transitions)
