@@ -212,7 +212,7 @@ module _ (s : List ℕ) (t : NetRead) (p : t ≡ netRead (netCard .read s 0 1)) 
   none-behind e = ap remainderStart (line-stopped (netCard .read s 0 1) (t .read) (cc) e)
 
   module _ {next : ℕ} (e : t .read ≡ Next next) where
-    card-read : netCard .read s 0 1 ≡ found (t .net) next
+    pub card-read : netCard .read s 0 1 ≡ found (t .net) next
     card-read = line-found (netCard .read s 0 1) noNet (t .net) (t .read) (cc) (cc) e
 
     pub starts-behind : remainderStart (netCard .read s 0 1) ≡ next

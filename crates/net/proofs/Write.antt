@@ -5,10 +5,12 @@ use native.Mathlib.Omega.{arith}
 use mathlib.Core.Path.{_≡_, refl}
 use mathlib.Core.Bool.{true}
 use mathlib.Core.List.{List, _++_}
-use lib.ListN.{length, getD}
+use lib.ListN.{length, take, getD}
+use Rattle.laws.specs.Front.{front-text}
 use Rattle.laws.specs.Slots.{firstOf, getD-within}
 use Rattle.laws.specs.Splice.{Wrote}
 use Rattle.reply.specs.declared.Refusal.{Refusal}
+use Rattle.reply.specs.declared.Checked.{Checked}
 use Rattle.reply.specs.declared.Checked.the-variants.{Passed}
 use Rattle.reply.specs.declared.Checked.the-variants as checked
 use Rattle.reply.specs.declared.Reply.{Reply}
@@ -21,7 +23,7 @@ use Rattle.net.specs.declared.Transition.{Transition}
 use Rattle.net.specs.declared.Net.{Net}
 use Rattle.net.specs.Keys.{placesKey, transitionsKey, earliestKey, latestKey, takeKey, giveKey}
 use Rattle.net.specs.Net.{latestText, transition, noTransition, table, netCard}
-use Rattle.net.specs.Code.{netText}
+use Rattle.net.specs.Code.{writtenIf}
 use Rattle.net.proofs.Card.{net-short, net-places, net-transitions}
 
 -- ---- the four lines of a transition
@@ -55,13 +57,13 @@ module _ (places : ℕ) {transitions : ℕ} {l : List Transition} {out₀ : List
       → Writing (transition places) transitions noTransition l out₀ at out′ (i + 1) to′
   transition-wrote v = writing-more room w h (rw (getD-within l i d noTransition long) at v)
 
--- ---- the reply with a card
-pub answered : (n : Net) {s : List ℕ} {r : Reply} {out : List ℕ} → netCard .check n 1 ≡ Passed → {bytes : List ℕ} → bytes ≡ netCard .text n → Responded (answer bytes) s r out
-    → Responded (netText n) s r out
-answered n p e v = rw p (rw e at v)
+-- ---- the reply with a value's card: c is what its check says, and the card was written to the front of a buffer
+pub card-answered : {c : Checked} {text s : List ℕ} {r : Reply} {out buffer card : List ℕ} {n : ℕ} → c ≡ Passed → Wrote buffer 0 text n card → Responded (answer (take n card)) s r out
+    → Responded (writtenIf c text) s r out
+card-answered p w v = rw p (rw (front-text w) at v)
 
-pub net-refused : (n : Net) (s : List ℕ) {r : Refusal} → netCard .check n 1 ≡ checked.Refused r → Responded (netText n) s (Refused r) s
-net-refused n s p = rw p (record { reply = refl; output = refl })
+pub card-refused : {c : Checked} (text s : List ℕ) {r : Refusal} → c ≡ checked.Refused r → Responded (writtenIf c text) s (Refused r) s
+card-refused text s p = rw p (record { reply = refl; output = refl })
 
 -- a card fits into a buffer of 12,288 bytes
 pub card-fits : (n : Net) → netCard .check n 1 ≡ Passed → (n .places ≤ 16) × (n .transitions ≤ 32) × (0 + length (netCard .text n) ≤ 12288)

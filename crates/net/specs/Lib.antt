@@ -1,3 +1,4 @@
 pub mod Code
 pub mod Keys
 pub mod Net
+pub mod Same

@@ -11,6 +11,7 @@ use Rattle.reply.specs.declared.Refusal.{Refusal}
 use Rattle.reply.specs.declared.Checked.the-variants.{Passed, Refused}
 use Rattle.form.specs.Form.{checks, times}
 use Rattle.form.specs.Line.{ranged, listed}
+use Rattle.form.proofs.Found.{also-first, also-second}
 use Rattle.form.proofs.Lines.{ranged-within}
 use Rattle.form.proofs.Answers.{times-lines}
 use Rattle.form.proofs.Loops.{Checking, checking-start, checking-more}
@@ -54,6 +55,9 @@ count-within count line e = ranged-within 0 64 count line e .1
 
 -- ---- a run
 module _ (transitions : ℕ) (run : Run) where
+  pub run-count-within : runCard transitions .check run 1 ≡ Passed → run .count ≤ 64
+  run-count-within p = count-within (run .count) 3 (also-first (ranged 0 64 (run .count) 3) _ (also-second (ranged 1 1000 (run .denominator) 2) _ p))
+
   pub denominator-fails : {r : Refusal} → ranged 1 1000 (run .denominator) 2 ≡ Refused r → Refused r ≡ runCard transitions .check run 1
   denominator-fails e = rw e
 
@@ -74,6 +78,9 @@ module _ (transitions : ℕ) (run : Run) where
 
 -- ---- an order
 module _ (transitions : ℕ) (order : Order) where
+  pub order-count-within : orderCard transitions .check order 1 ≡ Passed → order .count ≤ 64
+  order-count-within p = count-within (order .count) 2 (also-first (ranged 0 64 (order .count) 2) _ p)
+
   pub order-count-fails : {r : Refusal} → ranged 0 64 (order .count) 2 ≡ Refused r → Refused r ≡ orderCard transitions .check order 1
   order-count-fails e = rw e
 

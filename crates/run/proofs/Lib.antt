@@ -1,4 +1,5 @@
 pub mod Card
 pub mod Check
 pub mod Read
+pub mod Same
 pub mod Write

@@ -1,3 +1,4 @@
 pub mod Keys
 pub mod Run
+pub mod Same
 pub mod Code

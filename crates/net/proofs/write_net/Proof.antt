@@ -1,8 +1,9 @@
 -- A refused net is answered by its refusal; the card of one that passes fits the buffer, and its bytes are the answer.
 use mathlib.Core.Path.{sym, _∙_}
 use borrow.Author.Needs.{needs}
-use Rattle.laws.specs.Front.{front-within, front-text, front-length}
-use Rattle.net.proofs.Write.{answered, net-refused, card-fits}
+use Rattle.laws.specs.Front.{front-within, front-length}
+use Rattle.net.specs.Net.{netCard}
+use Rattle.net.proofs.Write.{card-answered, card-refused, card-fits}
 use Rattle.net.proofs.write_net.Statement.{statement}
 use Rattle.net.proofs.write_net.Tie as tie
 
@@ -37,7 +38,7 @@ returns : tie.Need-returns
 returns c =
     let k = c .before .before .before in
     let a = k .before .before .args in
-    net-refused (a .net) (a .out .now) (sym (k .check-net .ensures) ∙ c .before .c .given .1)
+    card-refused (netCard .text (a .net)) (a .out .now) (sym (k .check-net .ensures) ∙ c .before .c .given .1)
 
 same-length : tie.Need-same-length
 same-length c = search needs
@@ -48,7 +49,7 @@ returns-2 c =
     let p = f .before .before .before .before in
     let t = p .before .before in
     let k = t .before .before in
-    answered (k .before .before .args .net) (sym (k .check-net .ensures) ∙ t .enum-told .given .1) (front-text (p .put-net .ensures)) (f .respond .ensures)
+    card-answered (sym (k .check-net .ensures) ∙ t .enum-told .given .1) (p .put-net .ensures) (f .respond .ensures)
 
 pub write-net-spec : {M : Type 1} → statement M
 write-net-spec =

@@ -1,0 +1,72 @@
+-- Both round trips of run and order cards of a net, from the laws of their forms; and how much of an input a reading looks at.
+use Prim.Native.Nat.{ℕ, _+_, _≤_, _<_}
+use native.Mathlib.Omega.{arith}
+use mathlib.Core.Path.{_≡_}
+use mathlib.Core.Logic.{_↔_}
+use mathlib.Core.List.{List}
+use lib.ListN.{length, take}
+use Rattle.reply.specs.declared.Checked.the-variants.{Passed}
+use Rattle.reply.specs.Respond.{answer}
+use Rattle.form.specs.Form.{found}
+use Rattle.form.specs.Inverse.{Inverse}
+use Rattle.form.proofs.Found.{also-second}
+use Rattle.net.specs.declared.Net.{Net}
+use Rattle.net.specs.Net.{netCard}
+use Rattle.net.proofs.Card.{netReach, net-transitions}
+use Rattle.run.specs.declared.Run.{Run}
+use Rattle.run.specs.declared.Order.{Order}
+use Rattle.run.specs.Run.{runCard, orderCard}
+use Rattle.run.proofs.Card.{runReach, orderReach, run-inverse, run-settled, run-reaches, order-inverse, order-settled, order-reaches}
+use Rattle.run.proofs.Check.{run-count-within, order-count-within}
+use Rattle.cards.specs.Cards.{readRun, readOrder, runCards, orderCards, runChecked, orderChecked, runText, orderText}
+use Rattle.cards.proofs.OnNet.{card-read-back, card-written-again, card-passes-exactly, card-short, both-prefix}
+
+module _ (net : Net) where
+  card-run-inverse : netCard .check net 1 ≡ Passed → Inverse (runCard (net .transitions))
+  card-run-inverse p = run-inverse (net .transitions) (net-transitions net p .1)
+
+  card-order-inverse : netCard .check net 1 ≡ Passed → Inverse (orderCard (net .transitions))
+  card-order-inverse p = order-inverse (net .transitions) (net-transitions net p .1)
+
+  -- what was written is read back, up to the slots past the count
+  pub run-read-back : (r : Run) (bytes : List ℕ) → runText net r ≡ answer bytes → readRun net bytes ≡ found (runCard (net .transitions) .clean r) (length bytes)
+  run-read-back = card-read-back (netCard .check net 1) (runCard (net .transitions)) card-run-inverse
+
+  pub order-read-back : (o : Order) (bytes : List ℕ) → orderText net o ≡ answer bytes → readOrder net bytes ≡ found (orderCard (net .transitions) .clean o) (length bytes)
+  order-read-back = card-read-back (netCard .check net 1) (orderCard (net .transitions)) card-order-inverse
+
+  -- what was read and is written again gives its bytes back
+  pub run-written-again : {r : Run} {next : ℕ} (s : List ℕ) → readRun net s ≡ found r next → runText net r ≡ answer s
+  run-written-again = card-written-again (netCard .check net 1) (runCard (net .transitions)) card-run-inverse
+
+  pub order-written-again : {o : Order} {next : ℕ} (s : List ℕ) → readOrder net s ≡ found o next → orderText net o ≡ answer s
+  order-written-again = card-written-again (netCard .check net 1) (orderCard (net .transitions)) card-order-inverse
+
+  -- the check lets pass exactly what is read back
+  pub run-passes-exactly : (r : Run) → (runChecked net r ≡ Passed)
+      ↔ (readRun net (runCard (net .transitions) .text r) ≡ found (runCard (net .transitions) .clean r) (length (runCard (net .transitions) .text r)))
+  run-passes-exactly = card-passes-exactly (netCard .check net 1) (runCard (net .transitions)) card-run-inverse (run-settled (net .transitions))
+
+  pub order-passes-exactly : (o : Order) → (orderChecked net o ≡ Passed)
+      ↔ (readOrder net (orderCard (net .transitions) .text o) ≡ found (orderCard (net .transitions) .clean o) (length (orderCard (net .transitions) .text o)))
+  order-passes-exactly = card-passes-exactly (netCard .check net 1) (orderCard (net .transitions)) card-order-inverse (order-settled (net .transitions))
+
+  pub run-short : (r : Run) → runChecked net r ≡ Passed → length (runCard (net .transitions) .text r) ≤ runReach
+  run-short = card-short (netCard .check net 1) (runCard (net .transitions)) card-run-inverse (run-reaches (net .transitions))
+
+  pub order-short : (o : Order) → orderChecked net o ≡ Passed → length (orderCard (net .transitions) .text o) ≤ orderReach
+  order-short = card-short (netCard .check net 1) (orderCard (net .transitions)) card-order-inverse (order-reaches (net .transitions))
+
+  -- a run of a net that passes has a card that fits into a buffer of 2,048 bytes, and an order one that fits into 1,024
+  pub run-fits : (r : Run) → runChecked net r ≡ Passed → (r .count ≤ 64) × (0 + length (runCard (net .transitions) .text r) ≤ 2048)
+  run-fits r p = (run-count-within (net .transitions) r (also-second (netCard .check net 1) _ p), omega (arith, run-short r p))
+
+  pub order-fits : (o : Order) → orderChecked net o ≡ Passed → (o .count ≤ 64) × (0 + length (orderCard (net .transitions) .text o) ≤ 1024)
+  order-fits o p = (order-count-within (net .transitions) o (also-second (netCard .check net 1) _ p), omega (arith, order-short o p))
+
+-- a program whose buffer holds the first k bytes loses nothing
+pub run-cards-prefix : (s : List ℕ) (k : ℕ) → netReach + runReach < k → runCards (take k s) ≡ runCards s
+run-cards-prefix = both-prefix runCard run-reaches
+
+pub order-cards-prefix : (s : List ℕ) (k : ℕ) → netReach + orderReach < k → orderCards (take k s) ≡ orderCards s
+order-cards-prefix = both-prefix orderCard order-reaches

@@ -1,0 +1,55 @@
+-- A card of a net, whichever its form: the net is judged first, and then the card is read, checked and written as any other.
+use Prim.Native.Nat.{ℕ, _+_, _-_, _≤_, _<_}
+use native.Mathlib.Omega.{arith}
+use mathlib.Core.Path.{_≡_, refl, sym, ap, subst}
+use mathlib.Core.Logic.{_↔_}
+use mathlib.Core.List.{List}
+use lib.ListN.{length, take, drop}
+use Rattle.laws.specs.Parts.{drop-take}
+use Rattle.reply.specs.declared.Checked.{Checked}
+use Rattle.reply.specs.declared.Checked.the-variants.{Passed, Refused}
+use Rattle.reply.specs.Respond.{answer}
+use Rattle.form.specs.Form.{Found, found, also, Form, alone}
+use Rattle.form.specs.Inverse.{Inverse, Settled, Reaches}
+use Rattle.form.proofs.Found.{not-both, then-same, also-first, also-second}
+use Rattle.form.proofs.Card.{text-short, alone-read-back, alone-written-again, alone-passes-exactly, alone-prefix}
+use Rattle.net.specs.Net.{netCard}
+use Rattle.net.specs.Code.{writtenIf}
+use Rattle.net.proofs.Card.{netReach, net-reaches, net-prefix, written-answer}
+use Rattle.cards.specs.Cards.{onNet, bothCards}
+
+on-net-found : {A : Type 0} (c : Checked) (m : Found A) {a : A} {next : ℕ} → onNet c m ≡ found a next → (c ≡ Passed) × (m ≡ found a next)
+on-net-found Passed m e = (refl, e)
+on-net-found (Refused r) m e = absurd (not-both e)
+
+-- c is the check of the net
+module _ {A : Type 0} (c : Checked) (f : Form A) (i : c ≡ Passed → Inverse f) where
+  pub card-read-back : (a : A) (bytes : List ℕ) → writtenIf (also c (f .check a 1)) (f .text a) ≡ answer bytes → onNet c (alone f bytes) ≡ found (f .clean a) (length bytes)
+  card-read-back a bytes e =
+      let w = written-answer (also c (f .check a 1)) (f .text a) e in
+      let p = also-first c (f .check a 1) (w .0) in
+      let back = alone-read-back (i p) a (also-second c (f .check a 1) (w .0)) in
+      rw p (subst (λ (t : List ℕ). alone f t ≡ found (f .clean a) (length t)) (w .1) back)
+
+  pub card-written-again : {a : A} {next : ℕ} (s : List ℕ) → onNet c (alone f s) ≡ found a next → writtenIf (also c (f .check a 1)) (f .text a) ≡ answer s
+  card-written-again s e =
+      let h = on-net-found c (alone f s) e in
+      let w = alone-written-again (i (h .0)) s (h .1) in
+      rw (h .0, w .passed) (ap answer (sym (w .bytes)))
+
+  pub card-passes-exactly : Settled f → (a : A) → (also c (f .check a 1) ≡ Passed) ↔ (onNet c (alone f (f .text a)) ≡ found (f .clean a) (length (f .text a)))
+  card-passes-exactly w a = (
+    λ p. let q = also-first c (f .check a 1) p in rw q (alone-read-back (i q) a (also-second c (f .check a 1) p)),
+    λ e. let h = on-net-found c (alone f (f .text a)) e in rw (h .0) (alone-passes-exactly (i (h .0)) w a .1 (h .1)),
+  )
+
+  pub card-short : {reach : ℕ} → Reaches f reach → (a : A) → also c (f .check a 1) ≡ Passed → length (f .text a) ≤ reach
+  card-short w a p = text-short (i (also-first c (f .check a 1) p)) w a (also-second c (f .check a 1) p)
+
+-- a reading of both cards looks at as much as the two readings together
+pub both-prefix : {A : Type 0} (f : ℕ → Form A) {reach : ℕ} → ((transitions : ℕ) → Reaches (f transitions) reach) → (s : List ℕ) (k : ℕ) → netReach + reach < k
+    → bothCards f (take k s) ≡ bothCards f s
+both-prefix f w s k h =
+    rw (net-prefix s k (omega arith))
+    (then-same (netCard .read s 0 1) _ _ (λ net next e.
+    rw (drop-take next k s, alone-prefix (w (net .transitions)) (drop next s) (k - next) (omega (arith, net-reaches .near net s 0 next 1 e))) refl))

@@ -1,0 +1,42 @@
+-- The net is checked first: its refusal is the answer, and of one that passes the card is read.
+use mathlib.Core.Path.{sym, _∙_}
+use borrow.Author.Needs.{needs}
+use Rattle.cards.proofs.read_order.Statement.{statement}
+use Rattle.cards.proofs.read_order.Tie as tie
+
+check-net-requires : tie.Need-check-net-requires
+check-net-requires c κs = search needs
+
+enum-known-c : tie.Need-enum-known-c
+enum-known-c c = search needs
+
+refused-order-requires : tie.Need-refused-order-requires
+refused-order-requires c κs = search needs
+
+enum-told : tie.Need-enum-told
+enum-told c = search needs
+
+order-card-requires : tie.Need-order-card-requires
+order-card-requires c κs = search needs
+
+returns : tie.Need-returns
+returns c =
+    let t = c .before .before in
+    c .refused-order .ensures ∙ rw (sym (t .before .before .check-net .ensures) ∙ t .c .given .1)
+
+returns-2 : tie.Need-returns-2
+returns-2 c =
+    let t = c .before in
+    c .order-card .ensures ∙ rw (sym (t .before .before .check-net .ensures) ∙ t .enum-told .given .1)
+
+pub read-order-spec : {M : Type 1} → statement M
+read-order-spec =
+    tie.close
+    (tie.spec
+    check-net-requires
+    enum-known-c
+    refused-order-requires
+    enum-told
+    order-card-requires
+    returns
+    returns-2)

@@ -1,0 +1,110 @@
+-- The net card is read, and the part behind it as the card of a run of that net; the first refusal answers for both.
+use native.Mathlib.Omega.{arith}
+use mathlib.Core.Path.{ap, _∙_}
+use borrow.Author.Needs.{needs}
+use Rattle.net.proofs.Read.{behind-within}
+use Rattle.run.specs.Run.{runCard}
+use Rattle.run.specs.Code.{noRun}
+use Rattle.run.proofs.Card.{run-reaches}
+use Rattle.cards.specs.Cards.{runInput}
+use Rattle.cards.proofs.Both.{net-stopped, card-stopped, both-read, both-near}
+use Rattle.cards.proofs.read_run_cards.Statement.{statement}
+use Rattle.cards.proofs.read_run_cards.Tie as tie
+
+read-net-requires : tie.Need-read-net-requires
+read-net-requires c κs = search needs
+
+enum-known-net-read : tie.Need-enum-known-net-read
+enum-known-net-read c = search needs
+
+refused-run-cards-requires : tie.Need-refused-run-cards-requires
+refused-run-cards-requires c κs = search needs
+
+enum-known-net-read-2 : tie.Need-enum-known-net-read-2
+enum-known-net-read-2 c = search needs
+
+sub-run-card : tie.Need-sub-run-card
+sub-run-card c =
+    let n = c .before .before .before .before in
+    behind-within (n .before .before .args .s .now) (n .read-net .result) (n .read-net .ensures) (c .before .net-read2 .given .1)
+
+part-run-card-start : tie.Need-part-run-card-start
+part-run-card-start c = sub-run-card c
+
+part-run-card-end : tie.Need-part-run-card-end
+part-run-card-end c = search needs
+
+run-card-requires : tie.Need-run-card-requires
+run-card-requires c κs = search needs
+
+enum-known-run-read : tie.Need-enum-known-run-read
+enum-known-run-read c = search needs
+
+refused-run-cards-requires-2 : tie.Need-refused-run-cards-requires-2
+refused-run-cards-requires-2 c κs = search needs
+
+enum-known-run-read-2 : tie.Need-enum-known-run-read-2
+enum-known-run-read-2 c = search needs
+
+add-t18 : tie.Need-add-t18
+add-t18 c =
+    let b = c .before .before in
+    let r = b .before .before in
+    let k = r .before .before .before in
+    let n = k .before .before .before in
+    let q = r .run-card .ensures in
+    omega (
+      arith,
+      both-near runCard (n .before .before .args .s .now) (n .read-net .ensures) (k .net-read2 .given .1) (λ i. q i .read) noRun (λ i. q i .run)
+          (b .run-read2 .given .1) (run-reaches (n .read-net .result .net .transitions)),
+    )
+
+returns : tie.Need-returns
+returns c =
+    let k = c .before .before in
+    let n = k .before .before .before in
+    c .refused-run-cards .ensures
+    ∙ ap runInput (net-stopped runCard (n .before .before .args .s .now) (n .read-net .ensures) (k .net-read .given .1))
+
+returns-2 : tie.Need-returns-2
+returns-2 c =
+    let b = c .before .before in
+    let r = b .before .before in
+    let k = r .before .before .before in
+    let n = k .before .before .before in
+    let q = r .run-card .ensures in
+    c .refused-run-cards2 .ensures
+    ∙ ap runInput
+    (card-stopped runCard (n .before .before .args .s .now) (n .read-net .ensures) (k .net-read2 .given .1)
+    (λ i. q i .read) (b .run-read .given .1))
+
+returns-3 : tie.Need-returns-3
+returns-3 c =
+    let b = c .before .before in
+    let r = b .before .before in
+    let k = r .before .before .before in
+    let n = k .before .before .before in
+    let q = r .run-card .ensures in
+    ap runInput
+    (both-read runCard (n .before .before .args .s .now) (n .read-net .ensures) (k .net-read2 .given .1)
+    (λ i. q i .read) noRun (λ i. q i .run) (b .run-read2 .given .1))
+
+pub read-run-cards-spec : {M : Type 1} → statement M
+read-run-cards-spec =
+    tie.close
+    (tie.spec
+    read-net-requires
+    enum-known-net-read
+    refused-run-cards-requires
+    enum-known-net-read-2
+    sub-run-card
+    part-run-card-start
+    part-run-card-end
+    run-card-requires
+    enum-known-run-read
+    refused-run-cards-requires-2
+    enum-known-run-read-2
+    add-t18
+    returns
+    returns-2
+    returns-3)

@@ -1,0 +1,60 @@
+-- The operations on cards of a net: what each finds, by the forms of the cards.
+use Prim.Native.Nat.{ℕ, _+_}
+use mathlib.Core.List.{List}
+use lib.ListN.{drop}
+use Rattle.reply.specs.declared.Checked.{Checked}
+use Rattle.reply.specs.declared.Checked.the-variants.{Passed, Refused}
+use Rattle.reply.specs.Respond.{Outcome}
+use Rattle.form.specs.Form.{Found, found, refused, andThen, also, Form, alone}
+use Rattle.form.specs.Code.{lineRead, valueOr}
+use Rattle.net.specs.declared.Net.{Net}
+use Rattle.net.specs.Net.{netCard}
+use Rattle.net.specs.Code.{noNet, writtenIf}
+use Rattle.run.specs.declared.Run.{Run}
+use Rattle.run.specs.declared.Order.{Order}
+use Rattle.run.specs.Run.{runCard, orderCard}
+use Rattle.run.specs.Code.{noRun, noOrder}
+use Rattle.cards.specs.declared.RunInput.{RunInput}
+use Rattle.cards.specs.declared.OrderInput.{OrderInput}
+
+-- what is read only of a net that passes its check: the net first
+abbrev pub onNet : {A : Type 0} → Checked → Found A → Found A
+onNet Passed f = f
+onNet (Refused r) f = refused r
+
+-- the whole of an input as a run card, and as an order card, of a net
+abbrev pub readRun : Net → List ℕ → Found Run
+readRun net s = onNet (netCard .check net 1) (alone (runCard (net .transitions)) s)
+
+abbrev pub readOrder : Net → List ℕ → Found Order
+readOrder net s = onNet (netCard .check net 1) (alone (orderCard (net .transitions)) s)
+
+-- a net card and, right behind it, a card of that net
+abbrev pub bothCards : {A : Type 0} → (ℕ → Form A) → List ℕ → Found (Net × A)
+bothCards card s = andThen (netCard .read s 0 1) (λ net next. andThen (alone (card (net .transitions)) (drop next s)) (λ a end. found (net, a) (next + end)))
+
+abbrev pub runCards : List ℕ → Found (Net × Run)
+runCards = bothCards runCard
+
+abbrev pub orderCards : List ℕ → Found (Net × Order)
+orderCards = bothCards orderCard
+
+abbrev pub runInput : Found (Net × Run) → RunInput
+runInput f = record { read = lineRead f; net = valueOr (noNet, noRun) f .0; run = valueOr (noNet, noRun) f .1 }
+
+abbrev pub orderInput : Found (Net × Order) → OrderInput
+orderInput f = record { read = lineRead f; net = valueOr (noNet, noOrder) f .0; order = valueOr (noNet, noOrder) f .1 }
+
+-- a run and an order of a net, handed over as values: the net first
+abbrev pub runChecked : Net → Run → Checked
+runChecked net r = also (netCard .check net 1) (runCard (net .transitions) .check r 1)
+
+abbrev pub orderChecked : Net → Order → Checked
+orderChecked net o = also (netCard .check net 1) (orderCard (net .transitions) .check o 1)
+
+-- their cards
+abbrev pub runText : Net → Run → Outcome
+runText net r = writtenIf (runChecked net r) (runCard (net .transitions) .text r)
+
+abbrev pub orderText : Net → Order → Outcome
+orderText net o = writtenIf (orderChecked net o) (orderCard (net .transitions) .text o)
