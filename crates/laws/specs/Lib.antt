@@ -1,3 +1,4 @@
+pub mod All
 pub mod FourWriters
 pub mod Front
 pub mod Parts
@@ -5,6 +6,7 @@ pub mod Room
 pub mod SlotSteps
 pub mod Slots
 pub mod Splice
+pub mod SplicedEntries
 pub mod Tabled
 pub mod TwoTexts
 pub mod Writes

@@ -30,11 +30,11 @@ module _ {ℓ} {A : Type ℓ} where
   getD-first (suc n) d (a ∷ l) zero h = refl
   getD-first (suc n) d (a ∷ l) (suc i) h = getD-first n d l i (le-of-suc-le-suc h)
 
-  first-fill : (n : ℕ) (d : A) (k : ℕ) → firstOf n d (replicate k d) ≡ firstOf n d []
+  pub first-replicate : (n : ℕ) (d : A) (k : ℕ) → firstOf n d (replicate k d) ≡ replicate n d
   unfolding firstOf
-  first-fill zero d k = refl
-  first-fill (suc n) d zero = refl
-  first-fill (suc n) d (suc k) = ap (λ (l : List A). d ∷ l) (first-fill n d k)
+  first-replicate zero d k = refl
+  first-replicate (suc n) d zero = ap (λ (l : List A). d ∷ l) (first-replicate n d zero)
+  first-replicate (suc n) d (suc k) = ap (λ (l : List A). d ∷ l) (first-replicate n d k)
 
   -- within the list the filler does not matter
   pub getD-within : (l : List A) (i : ℕ) (d d′ : A) → i < length l → getD l i d ≡ getD l i d′

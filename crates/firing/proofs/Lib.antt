@@ -1,0 +1,6 @@
+pub mod Accept
+pub mod Agree
+pub mod Clocks
+pub mod PlayLoop
+pub mod RowLaws
+pub mod Scan

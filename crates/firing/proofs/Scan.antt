@@ -1,0 +1,106 @@
+-- What the loops over places and transitions keep: a scan that is left at the first failure has found no failure so far, and of an
+-- array that is filled slot by slot the slots passed hold the new values and the others the old ones.
+use Prim.Native.Nat.{ℕ, _+_, _-_, _≤_, _<_}
+use native.Mathlib.Nat.{not-suc-le-zero, eq-or-lt-of-le, le-of-suc-le-suc}
+use native.Mathlib.Numerals.{add-one}
+use native.Mathlib.Omega.{arith}
+use mathlib.Core.Path.{_≡_, refl, sym, ap, _∙_}
+use mathlib.Core.Bool.{Bool, true, false, cond}
+use mathlib.Core.Logic.{⊎-elim}
+use mathlib.Core.List.{List}
+use lib.Dec.{leb}
+use lib.ListN.{length, getD, set, length-set}
+use lib.Seq.{getD-set-same, getD-set-other}
+use borrow.Author.Tests.{leb-true}
+use Rattle.laws.specs.All.{allBelow, all-more, all-at}
+use Rattle.laws.specs.Slots.{firstOf}
+use Rattle.laws.specs.Tabled.{tabled, first-tabled}
+use Rattle.firing.specs.Rows.{enoughIn, limitIn}
+
+-- ---- a scan
+pub record Scanned (f : ℕ → Bool) (n : ℕ) (ok : Bool) (p : ℕ) : Type 0 where
+  pub within : p ≤ n
+  pub so-far : ok ≡ true
+  pub passed : allBelow f p ≡ true
+
+pub scan-start : (f : ℕ → Bool) (n : ℕ) → Scanned f n true 0
+unfolding allBelow
+scan-start f n = record { within = omega arith; so-far = refl; passed = refl }
+
+module _ {f : ℕ → Bool} {n : ℕ} {ok : Bool} {p : ℕ} (s : Scanned f n ok p) where
+  pub scan-more : p < n → f p ≡ true → Scanned f n ok (p + 1)
+  scan-more l e = record { within = omega arith; so-far = s .so-far; passed = all-more f p (s .passed) e }
+
+  pub scan-done : n ≤ p → ok ≡ allBelow f n
+  scan-done l = let e : p ≡ n = omega (arith, s .within) in s .so-far ∙ sym (rw e at (s .passed))
+
+-- ---- the tests of one place
+module _ (take : List ℕ) (row : ℕ) (m : List ℕ) where
+  abbrev pub hasEnough : ℕ → Bool
+  hasEnough p = leb (getD take (row + p) 0) (getD m p 0)
+
+  abbrev pub leaves : ℕ → ℕ
+  leaves p = getD m p 0 - getD take (row + p) 0
+
+  pub enough-at : (places p : ℕ) → enoughIn take row m places ≡ true → p < places → getD take (row + p) 0 ≤ getD m p 0
+  unfolding enoughIn
+  enough-at places p e l = leb-true _ _ (all-at hasEnough p places e l)
+
+module _ (take give : List ℕ) (row : ℕ) (m : List ℕ) where
+  abbrev pub holds : ℕ → ℕ
+  holds p = getD m p 0 - getD take (row + p) 0 + getD give (row + p) 0
+
+  abbrev pub keepsLimit : ℕ → Bool
+  keepsLimit p = leb (holds p) 255
+
+  pub limit-at : (places p : ℕ) → limitIn take give row m places ≡ true → p < places → holds p ≤ 255
+  unfolding limitIn
+  limit-at places p e l = leb-true _ _ (all-at keepsLimit p places e l)
+
+-- ---- an array filled slot by slot
+pub record Filled (old : List ℕ) (f : ℕ → ℕ) (n : ℕ) (new : List ℕ) : Type 0 where
+  pub long : length new ≡ length old
+  pub passed : (k : ℕ) → k < n → getD new k 0 ≡ f k
+  pub left : (k : ℕ) → n ≤ k → getD new k 0 ≡ getD old k 0
+
+pub fill-start : (old : List ℕ) (f : ℕ → ℕ) → Filled old f 0 old
+fill-start old f = record { long = refl; passed = λ k l. absurd (not-suc-le-zero l); left = λ k l. refl }
+
+module _ {old : List ℕ} {f : ℕ → ℕ} {n : ℕ} {new : List ℕ} (s : Filled old f n new) where
+  -- a store
+  pub fill-store : (v : ℕ) → n < length old → v ≡ f n → Filled old f (n + 1) (set new n v)
+  fill-store v b e =
+      record {
+        long = length-set new n v ∙ s .long;
+        passed = λ k l. ⊎-elim (λ (q : k ≡ n). here k q) (λ (lt : k < n). before k lt) (eq-or-lt-of-le (le-of-suc-le-suc (rw add-one at l)));
+        left = λ k l. getD-set-other new n k v 0 (λ q. absurd (omega arith)) ∙ s .left k (omega arith);
+      }
+    where
+      here : (k : ℕ) → k ≡ n → getD (set new n v) k 0 ≡ f k
+      here k q = rw q (getD-set-same new n v 0 (omega (arith, s .long)) ∙ e)
+
+      before : (k : ℕ) → k < n → getD (set new n v) k 0 ≡ f k
+      before k lt = getD-set-other new n k v 0 (λ q. absurd (omega arith)) ∙ s .passed k lt
+
+  -- a slot left as it was
+  pub fill-keep : getD old n 0 ≡ f n → Filled old f (n + 1) new
+  fill-keep e =
+      record {
+        long = s .long;
+        passed = λ k l. ⊎-elim (λ (q : k ≡ n). rw q (s .left n (omega arith) ∙ e)) (λ (lt : k < n). s .passed k lt) (eq-or-lt-of-le (le-of-suc-le-suc (rw add-one at l)));
+        left = λ k l. s .left k (omega arith);
+      }
+
+  pub fill-done : (m : ℕ) → m ≤ n → firstOf m 0 new ≡ tabled f 0 m
+  fill-done m b = first-tabled f m new (λ k l. s .passed k (omega arith))
+
+-- ---- an array in which some slots get a new value
+module _ (old : List ℕ) (renews : ℕ → Bool) (value : ℕ) where
+  abbrev pub renewed : ℕ → ℕ
+  renewed k = cond (renews k) value (getD old k 0)
+
+  pub renew-one : (n : ℕ) (new next : List ℕ) → Filled old renewed n new → renews n ≡ true → n < length old → next ≡ set new n value → Filled old renewed (n + 1) next
+  renew-one n new next s e l q = rw q (fill-store s value l (sym (ap (λ (b : Bool). cond b value (getD old n 0)) e)))
+
+  pub renew-none : (n : ℕ) (new next : List ℕ) → Filled old renewed n new → renews n ≡ false → next ≡ new → Filled old renewed (n + 1) next
+  renew-none n new next s e q = rw q (fill-keep s (sym (ap (λ (b : Bool). cond b value (getD old n 0)) e)))

@@ -1,0 +1,4 @@
+pub mod Claims
+pub mod Replay
+pub mod Rows
+pub mod Semantics
