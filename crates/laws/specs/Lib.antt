@@ -1,4 +1,6 @@
 pub mod All
+pub mod Div
+pub mod Each
 pub mod FourWriters
 pub mod Front
 pub mod Parts
@@ -7,6 +9,7 @@ pub mod SlotSteps
 pub mod Slots
 pub mod Splice
 pub mod SplicedEntries
+pub mod Sum
 pub mod Tabled
 pub mod TwoTexts
 pub mod Writes

@@ -3,7 +3,7 @@ use Prim.Native.Nat.{ℕ, zero, suc, _-_, _<_}
 use native.Mathlib.Nat.{not-suc-le-zero, le-of-suc-le-suc}
 use mathlib.Core.List.{List, [], _∷_, _++_, map}
 use mathlib.Core.Path.{_≡_, refl, ap, _∙_}
-use lib.ListN.{length, getD, replicate, length-map, List·getD-append, List·getD-map}
+use lib.ListN.{length, getD, replicate, length-map, List·getD-map}
 
 module _ {ℓ} {A : Type ℓ} where
   -- the first n elements, with d for each that is missing
@@ -51,17 +51,21 @@ module _ {ℓ} {A : Type ℓ} where
   pub first-pad : (n size : ℕ) (d : A) (l : List A) → length l ≡ n → firstOf n d (padTo size d l) ≡ l
   first-pad n size d l e = rw (← e) (first-append d l (replicate (size - length l) d))
 
-  -- a slot that counts is not changed by padding
-  pub getD-pad : (size : ℕ) (d d′ : A) (l : List A) (i : ℕ) → i < length l → getD (padTo size d l) i d′ ≡ getD l i d′
-  getD-pad size d d′ l i h = List·getD-append l (replicate (size - length l) d) d′ i h
+  -- behind a list stands its filler, whether it is written out or not
+  pub getD-padded : (l : List A) (k : ℕ) (d : A) (i : ℕ) → getD (l ++ replicate k d) i d ≡ getD l i d
+  getD-padded [] zero d i = refl
+  getD-padded [] (suc k) d zero = refl
+  getD-padded [] (suc k) d (suc i) = getD-padded [] k d i
+  getD-padded (a ∷ l) k d zero = refl
+  getD-padded (a ∷ l) k d (suc i) = getD-padded l k d i
 
-  -- nor by what each element is made of, where that keeps the element
+  -- a slot that counts is kept
   pub getD-kept : (n size : ℕ) (d : A) (l : List A) (i : ℕ) → i < n → getD (padTo size d (firstOf n d l)) i d ≡ getD l i d
-  getD-kept n size d l i h = getD-pad size d d (firstOf n d l) i (rw (length-first n d l) h) ∙ getD-first n d l i h
+  getD-kept n size d l i h = getD-padded (firstOf n d l) (size - length (firstOf n d l)) d i ∙ getD-first n d l i h
 
 -- a slot that counts, after each element was changed by f
 pub getD-changed {ℓ} : {A : Type ℓ} (f : A → A) (n size : ℕ) (d : A) (l : List A) (i : ℕ) → i < n → getD (padTo size d (map f (firstOf n d l))) i d ≡ f (getD l i d)
 getD-changed f n size d l i h =
     let m = map f (firstOf n d l) in
     let k : i < length m = rw (length-map (firstOf n d l) f, length-first n d l) h in
-    getD-pad size d d m i k ∙ getD-within m i d (f d) k ∙ List·getD-map f (firstOf n d l) i d ∙ ap f (getD-first n d l i h)
+    getD-padded m (size - length m) d i ∙ getD-within m i d (f d) k ∙ List·getD-map f (firstOf n d l) i d ∙ ap f (getD-first n d l i h)

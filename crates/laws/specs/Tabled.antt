@@ -30,7 +30,7 @@ tabled-past f i (suc n) (suc k) h = tabled-past f (suc i) n k (le-of-suc-le-suc 
 pub entry-past : (f : ℕ → ℕ) (n k : ℕ) → n ≤ k → getD (tabled f 0 n) k 0 ≡ 0
 entry-past f n k h = tabled-past f 0 n k h
 
-length-tabled : (f : ℕ → ℕ) (i n : ℕ) → length (tabled f i n) ≡ n
+pub length-tabled : (f : ℕ → ℕ) (i n : ℕ) → length (tabled f i n) ≡ n
 length-tabled f i zero = refl
 length-tabled f i (suc n) = ap suc (length-tabled f (suc i) n)
 

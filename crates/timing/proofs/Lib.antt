@@ -1,0 +1,15 @@
+pub mod Meet
+pub mod Feasible
+pub mod Scale
+pub mod Cap
+pub mod Pass
+pub mod Climb
+pub mod Answer
+pub mod Edges
+pub mod Solved
+pub mod Strict
+pub mod Every
+pub mod Order
+pub mod Instants
+pub mod Timings
+pub mod Scheduled

@@ -1,0 +1,162 @@
+-- What `schedule` answers, for any restart rule and orders of any length: where the tokens allow the order, the earliest timing there is at any
+-- denominator, or the first firing up to which there is none. The least instants in whole ticks are least at every denominator, since rounding a timing
+-- down gives a timing.
+use Prim.Native.Nat.{ℕ, _*_, _≤_, _<_}
+use native.Mathlib.Nat.{mul-le-mul-left}
+use native.Mathlib.Omega.{arith}
+use mathlib.Core.Path.{_≡_, refl, sym, ap, subst, _∙_}
+use mathlib.Core.Logic.{_↔_, ⊎-elim}
+use mathlib.Core.List.{List}
+use mathlib.Core.Option.{Option, none, some}
+use lib.ListN.{length}
+use Rattle.laws.specs.Sum.{le-or-lt}
+use Rattle.reply.specs.declared.Refusal.{Refusal}
+use Rattle.reply.specs.declared.Refusal.the-variants.{Untimable}
+use Rattle.reply.specs.declared.Checked.{Checked}
+use Rattle.reply.specs.declared.Checked.the-variants.{Passed, Refused}
+use Rattle.net.specs.declared.Net.{Net}
+use Rattle.firing.specs.Semantics.{Restart, transitionAt, startMarking}
+use Rattle.timing.specs.Timing.{Win, windows, Wellformed}
+use Rattle.timing.specs.Windows.{tokens, windowsOf, instants, Timing, Timable}
+use Rattle.timing.specs.Solve.{instantAt, solve, Verdict, metBy, failsAt}
+use Rattle.timing.specs.Claims.{Possible, LeastInstants, Answers, FirstFail, Judges, FirstUntimable}
+use Rattle.timing.specs.Schedule.{earliestOf, waitsBetween, timed, unschedulable, scheduledBy, schedule}
+use Rattle.timing.proofs.Feasible.{restrict, feasible-same}
+use Rattle.timing.proofs.Solved.{solve-right, least-small, prefixes-right, judge-unique}
+use Rattle.timing.proofs.Every.{least-every, first-every}
+use Rattle.timing.proofs.Order.{windows-wellformed, windows-closed, windows-lows}
+use Rattle.timing.proofs.Instants.{length-between, instants-list, instants-past}
+use Rattle.timing.proofs.Timings.{timable-possible, ticks-exactly, prefix-possible}
+
+not-timed : {r : Refusal} {ws : List ℕ} → unschedulable r ≡ timed ws → ⊥
+not-timed e = let z : _≡_ {A = ℕ} 0 1 = cc in omega arith
+
+-- instants that meet the first n windows, made least
+possible-least : (W : ℕ → Win) (n : ℕ) → Wellformed W n → Possible 1 W n → (x : List ℕ) × LeastInstants 1 W n x
+possible-least W n wf p = go (solve 1 W n) (solve-right 1 W n wf)
+  where
+    go : (a : Option (List ℕ)) → Answers 1 W n a → (x : List ℕ) × LeastInstants 1 W n x
+    go none h = absurd (h (p .0) (p .1))
+    go (some x) h = (x, h)
+
+module _ (net : Net) (restarts : Restart) (order : List ℕ) where
+  -- the windows of the order, and how many
+  abbrev W : ℕ → Win
+  W = windows (windowsOf net restarts order)
+
+  abbrev n : ℕ
+  n = length order
+
+  pub schedule-refused : (r : Refusal) → tokens net order (startMarking net) 0 ≡ Refused r → schedule net restarts order ≡ unschedulable r
+  unfolding schedule
+  schedule-refused r e = rw e refl
+
+  pub schedule-passed : tokens net order (startMarking net) 0 ≡ Passed → schedule net restarts order ≡ scheduledBy (earliestOf net restarts order)
+  unfolding schedule
+  schedule-passed e = rw e refl
+
+  earliest-right : Judges 1 W n (earliestOf net restarts order)
+  unfolding earliestOf
+  earliest-right = prefixes-right 1 W n (windows-wellformed net restarts order)
+
+  -- whatever judges the windows rightly finds the same verdict
+  pub earliest-unique : (v : Verdict) → Judges 1 W n v → earliestOf net restarts order ≡ v
+  earliest-unique v j = judge-unique 1 W n (earliestOf net restarts order) v earliest-right j
+
+  module _ (ws : List ℕ) (e : schedule net restarts order ≡ timed ws) where
+    timed-allowed : tokens net order (startMarking net) 0 ≡ Passed
+    timed-allowed = go (tokens net order (startMarking net) 0) refl
+      where
+        go : (c : Checked) → tokens net order (startMarking net) 0 ≡ c → c ≡ Passed
+        go Passed p = refl
+        go (Refused r) p = absurd (not-timed (sym (schedule-refused r p) ∙ e))
+
+    -- the waits are those between the least instants
+    timed-least : (x : List ℕ) × LeastInstants 1 W n x × (waitsBetween x ≡ ws)
+    timed-least = go (earliestOf net restarts order) earliest-right (sym (schedule-passed timed-allowed) ∙ e)
+      where
+        go : (v : Verdict) → Judges 1 W n v → scheduledBy v ≡ timed ws → (x : List ℕ) × LeastInstants 1 W n x × (waitsBetween x ≡ ws)
+        go (metBy x) j p = (x, j, cc)
+        go (failsAt k) j p = absurd (not-timed p)
+
+    timed-instants : (i : ℕ) → i ≤ n → instants ws i ≡ instantAt (timed-least .0) i
+    timed-instants i l =
+        let (x, least, same) = timed-least in
+        ap (λ (l : List ℕ). instants l i) (sym same)
+        ∙ instants-list x (least .feasible .starts) (λ k b. least .feasible .each k (omega (arith, least .size)) .ordered) i (omega (arith, least .size))
+
+    -- the timetable is a timing in whole ticks
+    pub scheduled-timing : Timing net restarts 1 order ws
+    scheduled-timing =
+        let (x, least, same) = timed-least in
+        record {
+          allowed = timed-allowed;
+          complete = ap length (sym same) ∙ length-between x n (least .size);
+          meets = feasible-same 1 W n (windows-wellformed net restarts order) (instants ws) (instantAt x) timed-instants .1 (least .feasible);
+        }
+
+    -- in every timing at any denominator each firing is at the timetable's instant or later
+    pub scheduled-earliest : (D : ℕ) → 0 < D → (vs : List ℕ) → Timing net restarts D order vs → (i : ℕ) → i ≤ length order → D * instants ws i ≤ instants vs i
+    scheduled-earliest D d vs t i l =
+        let (x, least, same) = timed-least in
+        rw (timed-instants i l) (least-every W n (windows-closed net restarts order) x least D d (instants vs) (t .meets) i)
+
+    -- no instant i is over K·i where no lower bound is over K
+    pub scheduled-early : (K : ℕ) → ((t : ℕ) → t < net .transitions → transitionAt net t .earliest ≤ K) → (i : ℕ) → instants ws i ≤ K * i
+    scheduled-early K h i = ⊎-elim (λ l. within i l) (λ l. later l) (le-or-lt i n)
+      where
+        within : (j : ℕ) → j ≤ n → instants ws j ≤ K * j
+        within j l =
+            let (x, least, same) = timed-least in
+            rw (timed-instants j l) (least-small 1 W n (windows-wellformed net restarts order) K (windows-lows net restarts order timed-allowed K h) x least j)
+
+        later : n < i → instants ws i ≤ K * i
+        later l =
+            let size = scheduled-timing .complete in
+            let past : n ≤ i = omega arith in
+            omega (arith, instants-past ws i (omega arith), ap (instants ws) size, within n (omega arith), mul-le-mul-left K past)
+
+  module _ (e : tokens net order (startMarking net) 0 ≡ Passed) where
+    -- of an order that the tokens allow there is a timetable exactly when there is a timing at some denominator
+    pub scheduled-exactly : ((ws : List ℕ) × (schedule net restarts order ≡ timed ws)) ↔ ((D : ℕ) × (0 < D) × Timable net restarts D order)
+    scheduled-exactly = (
+      λ p. (1, omega arith, (p .0, scheduled-timing (p .0) (p .1))),
+      λ p. go (timable-possible net restarts order 1 e .0 (ticks-exactly net restarts order (p .0) (p .1) .1 (p .2))) (earliestOf net restarts order) refl earliest-right,
+    )
+      where
+        go : Possible 1 W n → (v : Verdict) → earliestOf net restarts order ≡ v → Judges 1 W n v → (ws : List ℕ) × (schedule net restarts order ≡ timed ws)
+        go p (metBy x) q j = (waitsBetween x, schedule-passed e ∙ ap scheduledBy q)
+        go p (failsAt k) q j = absurd (j .fails-at (p .0) (restrict k (j .reached) (p .1)))
+
+    first-untimable : (k : ℕ) → FirstFail 1 W n k → FirstUntimable net restarts order k
+    first-untimable k f =
+        record {
+          reached = f .reached;
+          untimable = λ D d waits t.
+              let p = prefix-possible net restarts order e k (f .reached) D .0 (waits, t) in
+              first-every W n (windows-closed net restarts order) k f D d (p .0) (p .1);
+          timable = λ j l.
+              let (x, least) = f .met j l in
+              prefix-possible net restarts order e j (omega (arith, f .reached)) 1 .1 (instantAt x, least .feasible);
+        }
+
+    first-fail : (k : ℕ) → FirstUntimable net restarts order k → FirstFail 1 W n k
+    first-fail k f =
+        record {
+          reached = f .reached;
+          fails-at = λ S p. let t = prefix-possible net restarts order e k (f .reached) 1 .1 (S, p) in f .untimable 1 (omega arith) (t .0) (t .1);
+          met = λ j l.
+              possible-least W j (λ i b. windows-wellformed net restarts order i (omega (arith, f .reached)))
+              (prefix-possible net restarts order e j (omega (arith, f .reached)) 1 .0 (f .timable j l));
+        }
+
+    -- the order is refused as untimable at k exactly when k is the first firing up to which there is no timing
+    pub untimable-exactly : (k : ℕ) → (schedule net restarts order ≡ unschedulable (Untimable k)) ↔ FirstUntimable net restarts order k
+    untimable-exactly k = (
+      λ p. go (earliestOf net restarts order) earliest-right (sym (schedule-passed e) ∙ p),
+      λ f. schedule-passed e ∙ ap scheduledBy (earliest-unique (failsAt k) (first-fail k f)),
+    )
+      where
+        go : (v : Verdict) → Judges 1 W n v → scheduledBy v ≡ unschedulable (Untimable k) → FirstUntimable net restarts order k
+        go (metBy x) j p = absurd (not-timed (sym p))
+        go (failsAt m) j p = let q : m ≡ k = cc in first-untimable k (subst (FirstFail 1 W n) q j)

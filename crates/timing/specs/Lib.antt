@@ -1,0 +1,5 @@
+pub mod Timing
+pub mod Windows
+pub mod Solve
+pub mod Claims
+pub mod Schedule

@@ -1,0 +1,1 @@
+// Timings of firing orders.
