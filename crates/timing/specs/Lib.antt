@@ -1,5 +1,6 @@
 pub mod Timing
 pub mod Windows
 pub mod Solve
+pub mod Starred
 pub mod Claims
 pub mod Schedule
