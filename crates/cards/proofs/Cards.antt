@@ -5,21 +5,27 @@ use mathlib.Core.Path.{_≡_}
 use mathlib.Core.Logic.{_↔_}
 use mathlib.Core.List.{List}
 use lib.ListN.{length, take}
+use Rattle.reply.specs.declared.Refusal.{Refusal}
 use Rattle.reply.specs.declared.Checked.the-variants.{Passed}
 use Rattle.reply.specs.Respond.{answer}
-use Rattle.form.specs.Form.{found}
+use Rattle.form.specs.declared.LineRead.the-variants.{Next, Stopped}
+use Rattle.form.specs.Form.{found, refused}
 use Rattle.form.specs.Inverse.{Inverse}
-use Rattle.form.proofs.Found.{also-second}
+use Rattle.form.proofs.Answers.{line-found, line-stopped}
+use Rattle.form.proofs.Found.{also-first, also-second}
 use Rattle.net.specs.declared.Net.{Net}
 use Rattle.net.specs.Net.{netCard}
-use Rattle.net.proofs.Card.{netReach, net-transitions}
+use Rattle.net.specs.Code.{noNet}
+use Rattle.net.proofs.Card.{netReach, net-places, net-transitions}
 use Rattle.run.specs.declared.Run.{Run}
 use Rattle.run.specs.declared.Order.{Order}
 use Rattle.run.specs.Run.{runCard, orderCard}
+use Rattle.run.specs.Code.{noRun}
 use Rattle.run.proofs.Card.{runReach, orderReach, run-inverse, run-settled, run-reaches, order-inverse, order-settled, order-reaches}
 use Rattle.run.proofs.Check.{run-count-within, order-count-within}
-use Rattle.cards.specs.Cards.{readRun, readOrder, runCards, orderCards, runChecked, orderChecked, runText, orderText}
-use Rattle.cards.proofs.OnNet.{card-read-back, card-written-again, card-passes-exactly, card-short, both-prefix}
+use Rattle.cards.specs.declared.RunInput.{RunInput}
+use Rattle.cards.specs.Cards.{readRun, readOrder, runCards, orderCards, runInput, runChecked, orderChecked, runText, orderText}
+use Rattle.cards.proofs.OnNet.{card-read-back, card-written-again, card-passes-exactly, card-short, both-prefix, both-passed}
 
 module _ (net : Net) where
   card-run-inverse : netCard .check net 1 ≡ Passed → Inverse (runCard (net .transitions))
@@ -57,6 +63,12 @@ module _ (net : Net) where
   pub order-short : (o : Order) → orderChecked net o ≡ Passed → length (orderCard (net .transitions) .text o) ≤ orderReach
   order-short = card-short (netCard .check net 1) (orderCard (net .transitions)) card-order-inverse (order-reaches (net .transitions))
 
+  -- the counts of a run of a net that passes
+  pub run-counts : (r : Run) → runChecked net r ≡ Passed → (net .places ≤ 16) × (net .transitions ≤ 32) × (r .count ≤ 64)
+  run-counts r p =
+      let q = also-first (netCard .check net 1) _ p in
+      (net-places net q .1, net-transitions net q .1, run-count-within (net .transitions) r (also-second (netCard .check net 1) _ p))
+
   -- a run of a net that passes has a card that fits into a buffer of 2,048 bytes, and an order one that fits into 1,024
   pub run-fits : (r : Run) → runChecked net r ≡ Passed → (r .count ≤ 64) × (0 + length (runCard (net .transitions) .text r) ≤ 2048)
   run-fits r p = (run-count-within (net .transitions) r (also-second (netCard .check net 1) _ p), omega (arith, run-short r p))
@@ -70,3 +82,18 @@ run-cards-prefix = both-prefix runCard run-reaches
 
 pub order-cards-prefix : (s : List ℕ) (k : ℕ) → netReach + orderReach < k → orderCards (take k s) ≡ orderCards s
 order-cards-prefix = both-prefix orderCard order-reaches
+
+-- what was read passes its check
+pub run-cards-passed : (s : List ℕ) {net : Net} {r : Run} {end : ℕ} → runCards s ≡ found (net, r) end → runChecked net r ≡ Passed
+run-cards-passed = both-passed runCard run-inverse
+
+pub order-cards-passed : (s : List ℕ) {net : Net} {o : Order} {end : ℕ} → orderCards s ≡ found (net, o) end → orderChecked net o ≡ Passed
+order-cards-passed = both-passed orderCard order-inverse
+
+-- what an input that was read says of its cards
+module _ (s : List ℕ) {i : RunInput} (is : i ≡ runInput (runCards s)) where
+  pub run-input-stopped : {r : Refusal} → i .read ≡ Stopped r → runCards s ≡ refused r
+  run-input-stopped e = line-stopped (runCards s) (i .read) (λ k. is k .read) e
+
+  pub run-input-found : {next : ℕ} → i .read ≡ Next next → runCards s ≡ found (i .net, i .run) next
+  run-input-found e = line-found (runCards s) (noNet, noRun) (i .net, i .run) (i .read) (λ k. is k .read) (λ k. (is k .net, is k .run)) e

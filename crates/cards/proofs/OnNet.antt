@@ -11,11 +11,12 @@ use Rattle.reply.specs.declared.Checked.the-variants.{Passed, Refused}
 use Rattle.reply.specs.Respond.{answer}
 use Rattle.form.specs.Form.{Found, found, also, Form, alone}
 use Rattle.form.specs.Inverse.{Inverse, Settled, Reaches}
-use Rattle.form.proofs.Found.{not-both, then-same, also-first, also-second}
+use Rattle.form.proofs.Found.{not-both, found-value, then-found, then-same, also-first, also-second}
 use Rattle.form.proofs.Card.{text-short, alone-read-back, alone-written-again, alone-passes-exactly, alone-prefix}
+use Rattle.net.specs.declared.Net.{Net}
 use Rattle.net.specs.Net.{netCard}
 use Rattle.net.specs.Code.{writtenIf}
-use Rattle.net.proofs.Card.{netReach, net-reaches, net-prefix, written-answer}
+use Rattle.net.proofs.Card.{netReach, net-inverse, net-reaches, net-prefix, net-transitions, written-answer}
 use Rattle.cards.specs.Cards.{onNet, bothCards}
 
 on-net-found : {A : Type 0} (c : Checked) (m : Found A) {a : A} {next : ℕ} → onNet c m ≡ found a next → (c ≡ Passed) × (m ≡ found a next)
@@ -53,3 +54,13 @@ both-prefix f w s k h =
     rw (net-prefix s k (omega arith))
     (then-same (netCard .read s 0 1) _ _ (λ net next e.
     rw (drop-take next k s, alone-prefix (w (net .transitions)) (drop next s) (k - next) (omega (arith, net-reaches .near net s 0 next 1 e))) refl))
+
+-- a net and a value of it that were read pass their checks
+pub both-passed : {A : Type 0} (f : ℕ → Form A) → ((transitions : ℕ) → transitions ≤ 32 → Inverse (f transitions)) → (s : List ℕ) {net : Net} {a : A} {end : ℕ}
+    → bothCards f s ≡ found (net, a) end → also (netCard .check net 1) (f (net .transitions) .check a 1) ≡ Passed
+both-passed {A} f i s {net} {a} e =
+    let u = then-found (netCard .read s 0 1) _ e in
+    let v = then-found (alone (f (u .value .transitions)) (drop (u .place) s)) _ (u .then) in
+    let p = net-inverse .written-read (u .value) s 0 (u .place) 1 (u .first) .passed in
+    let q = alone-written-again (i (u .value .transitions) (net-transitions (u .value) p .1)) (drop (u .place) s) (v .first) .passed in
+    subst (λ (x : Net × A). also (netCard .check (x .0) 1) (f (x .0 .transitions) .check (x .1) 1) ≡ Passed) (found-value (v .then)) (rw p q)

@@ -1,7 +1,7 @@
 -- Weights held in rows of sixteen are the weights of the table, so what is computed over rows is what is defined over the net: the same places are
 -- tested, and slots past the counts are read by neither.
 use Prim.Native.Nat.{ℕ, _+_, _-_, _*_, _≤_, _<_}
-use native.Mathlib.Nat.{not-suc-le-zero, eq-or-lt-of-le, le-of-suc-le-suc}
+use native.Mathlib.Nat.{zero-add, not-suc-le-zero, eq-or-lt-of-le, le-of-suc-le-suc}
 use native.Mathlib.Numerals.{add-one}
 use native.Mathlib.Omega.{arith}
 use mathlib.Core.Path.{_≡_, refl, ap, _∙_}
@@ -66,42 +66,52 @@ pub unlisted : (net : Net) (D : ℕ) (st : State) (t n : ℕ) → net .transitio
 unfolding judged enabled
 unlisted net D st t n l = rw (le-ltb t (net .transitions) l) refl
 
-module _ (net : Net) (rows : Rows) (held : Holds rows (net .table) (net .transitions)) (few : net .places ≤ 16) where
+module _ (net : Net) where
   -- a marking without the slots past the count
   abbrev marked : List ℕ → List ℕ
   marked m = firstOf (net .places) 0 m
 
-  enough-same : (m : List ℕ) (t : ℕ) → t < net .transitions → enoughIn (rows .take) (16 * t) m (net .places) ≡ enabled net (marked m) t
+  -- a row with the weights of t tells whether t is enabled
+  enough-row : (take : List ℕ) (row : ℕ) (m : List ℕ) (t : ℕ) → t < net .transitions → ((p : ℕ) → p < net .places → getD take (row + p) 0 ≡ takes net t p)
+      → enoughIn take row m (net .places) ≡ enabled net (marked m) t
   unfolding enoughIn enabled
-  enough-same m t l =
+  enough-row take row m t l h =
       rw (lt-ltb t (net .transitions) l)
-      (all-same (hasEnough (rows .take) (16 * t) m) (λ p. leb (takes net t p) (getD (marked m) p 0)) (net .places)
-      (λ p h. rw (held .taken t p l (omega arith), getD-first (net .places) 0 m p h) refl))
+      (all-same (hasEnough take row m) (λ p. leb (takes net t p) (getD (marked m) p 0)) (net .places)
+      (λ p b. rw (h p b, getD-first (net .places) 0 m p b) refl))
+
+  -- and so do the weights of t by themselves
+  pub enough-own : (m : List ℕ) (t : ℕ) → t < net .transitions → enoughIn (transitionAt net t .take) 0 m (net .places) ≡ enabled net (marked m) t
+  enough-own m t l = enough-row (transitionAt net t .take) 0 m t l (λ p b. ap (λ (i : ℕ). getD (transitionAt net t .take) i 0) (zero-add p))
+
+module _ (net : Net) (rows : Rows) (held : Holds rows (net .table) (net .transitions)) (few : net .places ≤ 16) where
+  enough-same : (m : List ℕ) (t : ℕ) → t < net .transitions → enoughIn (rows .take) (16 * t) m (net .places) ≡ enabled net (marked net m) t
+  enough-same m t l = enough-row net (rows .take) (16 * t) m t l (λ p h. held .taken t p l (omega arith))
 
   module _ (m : List ℕ) (t : ℕ) (l : t < net .transitions) where
-    left-same : (p : ℕ) → p < net .places → leaves (rows .take) (16 * t) m p ≡ getD (marked m) p 0 - takes net t p
+    left-same : (p : ℕ) → p < net .places → leaves (rows .take) (16 * t) m p ≡ getD (marked net m) p 0 - takes net t p
     left-same p h = rw (held .taken t p l (omega arith), getD-first (net .places) 0 m p h) refl
 
-    later-same : (p : ℕ) → p < net .places → holds (rows .take) (rows .give) (16 * t) m p ≡ getD (marked m) p 0 - takes net t p + gives net t p
+    later-same : (p : ℕ) → p < net .places → holds (rows .take) (rows .give) (16 * t) m p ≡ getD (marked net m) p 0 - takes net t p + gives net t p
     later-same p h = rw (left-same p h, held .given t p l (omega arith)) refl
 
-    limit-same : limitIn (rows .take) (rows .give) (16 * t) m (net .places) ≡ bounded net (after net (marked m) t)
+    limit-same : limitIn (rows .take) (rows .give) (16 * t) m (net .places) ≡ bounded net (after net (marked net m) t)
     unfolding limitIn bounded after
     limit-same =
-        all-same (keepsLimit (rows .take) (rows .give) (16 * t) m) (λ p. leb (getD (after net (marked m) t) p 0) 255) (net .places)
-        (λ p h. rw (later-same p h, entry (λ p. getD (marked m) p 0 - takes net t p + gives net t p) (net .places) p h) refl)
+        all-same (keepsLimit (rows .take) (rows .give) (16 * t) m) (λ p. leb (getD (after net (marked net m) t) p 0) 255) (net .places)
+        (λ p h. rw (later-same p h, entry (λ p. getD (marked net m) p 0 - takes net t p + gives net t p) (net .places) p h) refl)
 
     module _ (moved : Moved) (moves : Moves (rows .take) (rows .give) (16 * t) m (net .places) moved) where
-      middle-marked : marked (moved .middle) ≡ taken net (marked m) t
+      middle-marked : marked net (moved .middle) ≡ taken net (marked net m) t
       unfolding taken
       middle-marked = moves .middle ∙ tabled-same _ _ (net .places) left-same
 
-      later-marked : marked (moved .later) ≡ after net (marked m) t
+      later-marked : marked net (moved .later) ≡ after net (marked net m) t
       unfolding after
       later-marked = moves .later ∙ tabled-same _ _ (net .places) later-same
 
       restart-same : (memory : Memory) (u : ℕ) → u < net .transitions
-          → restartIn (rows .take) m (moved .middle) (moved .later) (net .places) memory t u ≡ ruleOf net memory (marked m) t u
+          → restartIn (rows .take) m (moved .middle) (moved .later) (net .places) memory t u ≡ ruleOf net memory (marked net m) t u
       unfolding restartIn intermediate atomic
       restart-same Intermediate u h =
           rw (enough-same (moved .later) u h, enough-same (moved .middle) u h, later-marked, middle-marked) refl
@@ -115,7 +125,7 @@ module _ (net : Net) (rows : Rows) (held : Holds rows (net .table) (net .transit
 
     clock-same : (memory : Memory) (moved : Moved) → Moves (rows .take) (rows .give) (16 * t) (st .marking) (net .places) moved → (u : ℕ) → u < net .transitions
         → cond (restartIn (rows .take) (st .marking) (moved .middle) (moved .later) (net .places) memory t u) (st .now) (getD (st .since) u 0)
-        ≡ cond (ruleOf net memory (marked (st .marking)) t u) (st .now) (getD (firstOf (net .transitions) 0 (st .since)) u 0)
+        ≡ cond (ruleOf net memory (marked net (st .marking)) t u) (st .now) (getD (firstOf (net .transitions) 0 (st .since)) u 0)
     clock-same memory moved moves u h = rw (restart-same (st .marking) t l moved moves memory u h, getD-first (net .transitions) 0 (st .since) u h) refl
 
     pub fired-same : (memory : Memory) (r : State) → FiredIn (rows .take) (rows .give) st (net .places) (net .transitions) memory t r

@@ -58,32 +58,32 @@ module _ (take give : List ℕ) (row : ℕ) (m : List ℕ) where
   limit-at places p e l = leb-true _ _ (all-at keepsLimit p places e l)
 
 -- ---- an array filled slot by slot
-pub record Filled (old : List ℕ) (f : ℕ → ℕ) (n : ℕ) (new : List ℕ) : Type 0 where
+pub record Filled {A : Type 0} (d : A) (old : List A) (f : ℕ → A) (n : ℕ) (new : List A) : Type 0 where
   pub long : length new ≡ length old
-  pub passed : (k : ℕ) → k < n → getD new k 0 ≡ f k
-  pub left : (k : ℕ) → n ≤ k → getD new k 0 ≡ getD old k 0
+  pub passed : (k : ℕ) → k < n → getD new k d ≡ f k
+  pub left : (k : ℕ) → n ≤ k → getD new k d ≡ getD old k d
 
-pub fill-start : (old : List ℕ) (f : ℕ → ℕ) → Filled old f 0 old
-fill-start old f = record { long = refl; passed = λ k l. absurd (not-suc-le-zero l); left = λ k l. refl }
+pub fill-start : {A : Type 0} (d : A) (old : List A) (f : ℕ → A) → Filled d old f 0 old
+fill-start d old f = record { long = refl; passed = λ k l. absurd (not-suc-le-zero l); left = λ k l. refl }
 
-module _ {old : List ℕ} {f : ℕ → ℕ} {n : ℕ} {new : List ℕ} (s : Filled old f n new) where
+module _ {A : Type 0} {d : A} {old : List A} {f : ℕ → A} {n : ℕ} {new : List A} (s : Filled d old f n new) where
   -- a store
-  pub fill-store : (v : ℕ) → n < length old → v ≡ f n → Filled old f (n + 1) (set new n v)
+  pub fill-store : (v : A) → n < length old → v ≡ f n → Filled d old f (n + 1) (set new n v)
   fill-store v b e =
       record {
         long = length-set new n v ∙ s .long;
         passed = λ k l. ⊎-elim (λ (q : k ≡ n). here k q) (λ (lt : k < n). before k lt) (eq-or-lt-of-le (le-of-suc-le-suc (rw add-one at l)));
-        left = λ k l. getD-set-other new n k v 0 (λ q. absurd (omega arith)) ∙ s .left k (omega arith);
+        left = λ k l. getD-set-other new n k v d (λ q. absurd (omega arith)) ∙ s .left k (omega arith);
       }
     where
-      here : (k : ℕ) → k ≡ n → getD (set new n v) k 0 ≡ f k
-      here k q = rw q (getD-set-same new n v 0 (omega (arith, s .long)) ∙ e)
+      here : (k : ℕ) → k ≡ n → getD (set new n v) k d ≡ f k
+      here k q = rw q (getD-set-same new n v d (omega (arith, s .long)) ∙ e)
 
-      before : (k : ℕ) → k < n → getD (set new n v) k 0 ≡ f k
-      before k lt = getD-set-other new n k v 0 (λ q. absurd (omega arith)) ∙ s .passed k lt
+      before : (k : ℕ) → k < n → getD (set new n v) k d ≡ f k
+      before k lt = getD-set-other new n k v d (λ q. absurd (omega arith)) ∙ s .passed k lt
 
   -- a slot left as it was
-  pub fill-keep : getD old n 0 ≡ f n → Filled old f (n + 1) new
+  pub fill-keep : getD old n d ≡ f n → Filled d old f (n + 1) new
   fill-keep e =
       record {
         long = s .long;
@@ -91,16 +91,16 @@ module _ {old : List ℕ} {f : ℕ → ℕ} {n : ℕ} {new : List ℕ} (s : Fill
         left = λ k l. s .left k (omega arith);
       }
 
-  pub fill-done : (m : ℕ) → m ≤ n → firstOf m 0 new ≡ tabled f 0 m
-  fill-done m b = first-tabled f m new (λ k l. s .passed k (omega arith))
+pub fill-done : {f : ℕ → ℕ} {n : ℕ} {old new : List ℕ} → Filled 0 old f n new → (m : ℕ) → m ≤ n → firstOf m 0 new ≡ tabled f 0 m
+fill-done {f} {new = new} s m b = first-tabled f m new (λ k l. s .passed k (omega arith))
 
 -- ---- an array in which some slots get a new value
 module _ (old : List ℕ) (renews : ℕ → Bool) (value : ℕ) where
   abbrev pub renewed : ℕ → ℕ
   renewed k = cond (renews k) value (getD old k 0)
 
-  pub renew-one : (n : ℕ) (new next : List ℕ) → Filled old renewed n new → renews n ≡ true → n < length old → next ≡ set new n value → Filled old renewed (n + 1) next
+  pub renew-one : (n : ℕ) (new next : List ℕ) → Filled 0 old renewed n new → renews n ≡ true → n < length old → next ≡ set new n value → Filled 0 old renewed (n + 1) next
   renew-one n new next s e l q = rw q (fill-store s value l (sym (ap (λ (b : Bool). cond b value (getD old n 0)) e)))
 
-  pub renew-none : (n : ℕ) (new next : List ℕ) → Filled old renewed n new → renews n ≡ false → next ≡ new → Filled old renewed (n + 1) next
+  pub renew-none : (n : ℕ) (new next : List ℕ) → Filled 0 old renewed n new → renews n ≡ false → next ≡ new → Filled 0 old renewed (n + 1) next
   renew-none n new next s e q = rw q (fill-keep s (sym (ap (λ (b : Bool). cond b value (getD old n 0)) e)))

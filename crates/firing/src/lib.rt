@@ -7,7 +7,8 @@ use reply::Refusal;
 use run::Memory;
 use run::Run;
 ghost use mathlib.Core.Path.{_≡_};
-ghost use mathlib.Core.Bool.{Bool, true, cond};
+ghost use mathlib.Core.Bool.{Bool, true, false, cond};
+ghost use Rattle.firing.specs.Semantics.{enabled};
 ghost use Prim.Native.Nat.{ℕ, _+_, _-_, _*_, _≤_, _<_};
 ghost use lib.ListN.{length, getD, replicate};
 ghost use Rattle.laws.specs.Slots.{firstOf};
@@ -281,6 +282,7 @@ fn start(tokens: [u32; 16], places: usize) -> State
 pub fn play_run(net: Net, run: Run) -> Played
     requires { ⌜ (net .places ≤ 16) × (net .transitions ≤ 32) × (run .count ≤ 64) ⌝ }
     ensures { λ r. ⌜ playedAs (net .places) (net .transitions) r ≡ play net (ruleOf net (run .memory)) (run .denominator) (firingsOf run) (startState net) 0 ⌝ }
+    ensures { λ r. ⌜ r .state .now ≤ 64 * 4294967295 ⌝ }
 {
     let places = net.places;
     let transitions = net.transitions;
@@ -320,4 +322,32 @@ pub fn play_run(net: Net, run: Run) -> Played
         checked: Checked::Passed,
         state: st,
     }
+}
+
+// Whether every place has the tokens that one transition takes.
+fn enough_for(take: [u32; 16], marking: [u32; 16], places: usize) -> bool
+    requires { ⌜ places ≤ 16 ⌝ }
+    ensures { λ r. ⌜ r ≡ enoughIn take 0 marking places ⌝ }
+{
+    enough(&take, 0, &marking, places)
+}
+
+// Which transitions are enabled in a state: a scan over the transitions, each left at its first short place.
+pub fn enabled_flags(net: Net, st: State) -> [bool; 32]
+    requires { ⌜ (net .places ≤ 16) × (net .transitions ≤ 32) ⌝ }
+    ensures { λ r. ⌜ ((u : ℕ) → u < net .transitions → getD r u false ≡ enabled net (firstOf (net .places) 0 (st .marking)) u) ⌝ }
+{
+    let places = net.places;
+    let transitions = net.transitions;
+    let table = net.table;
+    let marking = st.marking;
+    let mut flags = [false; 32];
+    let mut u: usize = 0;
+    while u < transitions {
+        let tr = table[u];
+        let take = tr.take;
+        flags[u] = enough_for(take, marking, places);
+        u += 1;
+    }
+    flags
 }

@@ -1,6 +1,6 @@
 -- A line with a list of numbers: the state of each loop over it, which says the whole by what is left. The code tells the last number by the
 -- index, the definitions by what is left, and the two agree.
-use Prim.Native.Nat.{ℕ, zero, suc, _+_, _-_, _≤_, _<_}
+use Prim.Native.Nat.{ℕ, zero, suc, _+_, _-_, _*_, _≤_, _<_}
 use native.Mathlib.Nat.{sub-zero}
 use native.Mathlib.Omega.{arith}
 use mathlib.Core.Bool.{true, false, _&&_}
@@ -21,6 +21,7 @@ use Rattle.text.specs.declared.NumberRead.the-variants.{Value, NoNumber}
 use Rattle.text.specs.Decimal.{field}
 use Rattle.text.specs.Key.{beginsWith}
 use Rattle.text.specs.Number.{fieldAt}
+use Rattle.text.proofs.DecimalLaws.{field-short}
 use Rattle.form.specs.declared.LineRead.the-variants.{Next, Stopped}
 use Rattle.form.specs.declared.Numbers.{Numbers}
 use Rattle.form.specs.Form.{Found, found, refused, andThen, judged, keyed}
@@ -147,6 +148,14 @@ module _ (out₀ : List ℕ) (at count : ℕ) (held : List ℕ) where
             wrote = wrote-both out₀ at (h .done) text (room-first out₀ at (h .done ++ text) rest (rw whole at room)) to out (h .wrote) to′ out′ w;
             rest = whole;
           }
+
+-- no list of numbers is longer than its longest numbers make it
+pub length-items : (ns : List ℕ) → length (itemsText ns) ≤ 21 * length ns
+unfolding itemsText
+length-items [] = omega arith
+length-items (n ∷ ns) =
+    let last = eqb (length ns) 0 in
+    omega (arith, length-append (field n last) (itemsText ns), field-short n last, length-items ns)
 
 -- ---- the whole line
 -- a list that was read has as many numbers as were asked for

@@ -3,6 +3,8 @@ pub mod Div
 pub mod Each
 pub mod FourWriters
 pub mod Front
+pub mod Joined
+pub mod Mapped
 pub mod Parts
 pub mod Room
 pub mod SlotSteps

@@ -57,10 +57,15 @@ module _ (places : ℕ) {transitions : ℕ} {l : List Transition} {out₀ : List
       → Writing (transition places) transitions noTransition l out₀ at out′ (i + 1) to′
   transition-wrote v = writing-more room w h (rw (getD-within l i d noTransition long) at v)
 
--- ---- the reply with a value's card: c is what its check says, and the card was written to the front of a buffer
+-- ---- the reply with a text that was written to the front of a buffer
+pub text-answered : {text s : List ℕ} {r : Reply} {out buffer written : List ℕ} {n : ℕ} → Wrote buffer 0 text n written → Responded (answer (take n written)) s r out
+    → Responded (answer text) s r out
+text-answered w v = rw (front-text w) at v
+
+-- the reply with a value's card: c is what its check says
 pub card-answered : {c : Checked} {text s : List ℕ} {r : Reply} {out buffer card : List ℕ} {n : ℕ} → c ≡ Passed → Wrote buffer 0 text n card → Responded (answer (take n card)) s r out
     → Responded (writtenIf c text) s r out
-card-answered p w v = rw p (rw (front-text w) at v)
+card-answered p w v = rw p (text-answered w v)
 
 pub card-refused : {c : Checked} (text s : List ℕ) {r : Refusal} → c ≡ checked.Refused r → Responded (writtenIf c text) s (Refused r) s
 card-refused text s p = rw p (record { reply = refl; output = refl })

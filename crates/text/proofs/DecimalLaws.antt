@@ -5,10 +5,12 @@ use native.Mathlib.Omega.{arith}
 use mathlib.Core.Bool.{Bool, true, false, cond}
 use mathlib.Core.Logic.{_⊎_, inl, inr}
 use mathlib.Core.Path.{_≡_, refl, ap}
-use lib.ListN.{length}
+use mathlib.Core.List.{[], _∷_}
+use lib.ListN.{length, length-append}
 use lib.Dec.{leb, lit<, lit≤}
 use borrow.Author.Tests.{leb-true, leb-false}
-use Rattle.text.specs.Decimal.{digits, width, decimal}
+use Rattle.text.specs.Number.{separator}
+use Rattle.text.specs.Decimal.{digits, width, decimal, field}
 
 pub length-digits : (k n : ℕ) → length (digits k n) ≡ k
 unfolding digits
@@ -72,3 +74,7 @@ length-decimal n = omega (arith, decimal-width n, width-one 19 n)
 
 pub length-decimal-small : (n : ℕ) → n < 10 ^ 9 → length (decimal n) ≤ 9
 length-decimal-small n h = omega (arith, decimal-width n, width-least n (width 19 n) 9 (width-right 19 n (omega arith)) h (lit≤ tt))
+
+-- with its separator no number takes more than 21 bytes
+pub field-short : (n : ℕ) (last : Bool) → length (field n last) ≤ 21
+field-short n last = omega (arith, length-append (decimal n) (separator last ∷ []), decimal-width n, width-most 19 n)

@@ -10,7 +10,7 @@ use Rattle.firing.proofs.move_tokens.Tie as tie
 
 abbrev Inv-loop : tie.InvT-loop
 Inv-loop take give row marking places middle₀ later₀ p₀ middle later p =
-    (p ≤ places) × Filled (replicate 16 0) (leaves take row marking) p middle × Filled (replicate 16 0) (holds take give row marking) p later
+    (p ≤ places) × Filled 0 (replicate 16 0) (leaves take row marking) p middle × Filled 0 (replicate 16 0) (holds take give row marking) p later
 
 abbrev μ-loop : tie.MeasureT-loop
 μ-loop take give row marking places middle₀ later₀ p₀ middle later p = places - p
@@ -19,8 +19,8 @@ loop-holds : tie.Need-loop-holds Inv-loop μ-loop
 loop-holds c =
     let a = c .args in (
       search needs,
-      fill-start (replicate 16 0) (leaves (a .take .now) (a .row) (a .marking .now)),
-      fill-start (replicate 16 0) (holds (a .take .now) (a .give .now) (a .row) (a .marking .now)),
+      fill-start 0 (replicate 16 0) (leaves (a .take .now) (a .row) (a .marking .now)),
+      fill-start 0 (replicate 16 0) (holds (a .take .now) (a .give .now) (a .row) (a .marking .now)),
     )
 
 mul-left : tie.Need-mul-left Inv-loop μ-loop

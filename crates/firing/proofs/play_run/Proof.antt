@@ -1,5 +1,5 @@
 -- The loop keeps the state of the replay (`Playing`); the first refusal answers for all, and so does the end.
-use Prim.Native.Nat.{_≤_, _-_}
+use Prim.Native.Nat.{_≤_, _-_, _*_}
 use native.Mathlib.Omega.{arith}
 use mathlib.Core.Path.{_≡_, sym, _∙_}
 use lib.ListN.{length, getD}
@@ -22,6 +22,9 @@ rows-long w = search needs
 wait-short : (k : tie.After-struct-known2 Inv-loop μ-loop) →
     getD (k .before .before .before .before .before .before .before .before .before .before .before .args .t2 .firings) (k .before .before .before .before .loop .i) noFiring .wait ≤ 4294967295
 wait-short k = omega arith
+
+not-late : (b : tie.At-loop Inv-loop μ-loop) → b .loop .st .now ≤ 64 * 4294967295
+not-late b = omega (arith, b .loop .inv .soon, b .loop .inv .within, b .before .before .before .before .before .before .before .pre)
 
 rows-of-requires : tie.Need-rows-of-requires Inv-loop μ-loop
 rows-of-requires c κs = search needs
@@ -58,7 +61,7 @@ returns c =
     let l = c .before .before .before .before .before in
     let b = l .before in
     let a = b .before .before .before .before .before .before .before .args in
-    playing-unlisted (a .t1) (a .t2) (b .loop .st) (b .loop .i) (b .loop .inv) (l .loop-test .taken) (c .if1 .taken)
+    (playing-unlisted (a .t1) (a .t2) (b .loop .st) (b .loop .i) (b .loop .inv) (l .loop-test .taken) (c .if1 .taken), not-late b)
 
 mul-tr : tie.Need-mul-tr Inv-loop μ-loop
 mul-tr c = search needs
@@ -101,9 +104,11 @@ returns-2 c =
     let l = e .before .before .before .before .before in
     let b = l .before in
     let w = b .before .before .before .before in
-    let s = w .before .before .before in
-    playing-refused (s .args .t1) (s .args .t2) (b .loop .st) (b .loop .i) (b .loop .inv) (w .rows-of .result) (w .rows-of .ensures) (s .pre .0) (l .loop-test .taken) (e .if1 .left)
-    (s .pre .1) _ (j .judge .result) (j .judge .ensures) _ (c .enum-told2 .given .1)
+    let s = w .before .before .before in (
+      playing-refused (s .args .t1) (s .args .t2) (b .loop .st) (b .loop .i) (b .loop .inv) (w .rows-of .result) (w .rows-of .ensures) (s .pre .0) (l .loop-test .taken) (e .if1 .left)
+          (s .pre .1) _ (j .judge .result) (j .judge .ensures) _ (c .enum-told2 .given .1),
+      not-late b,
+    )
 
 slice-aggregate-fire : tie.Need-slice-aggregate-fire Inv-loop μ-loop
 slice-aggregate-fire c = sym (rows-long (c .before .before .before .before .before .before .before .before .before .before .before .before .before .before .before .before .before) .0)
@@ -147,7 +152,7 @@ returns-3 : tie.Need-returns-3 Inv-loop μ-loop
 returns-3 c =
     let b = c .before in
     let a = b .before .before .before .before .before .before .before .args in
-    playing-done (a .t1) (a .t2) (b .loop .st) (b .loop .i) (b .loop .inv) (c .loop-test .left)
+    (playing-done (a .t1) (a .t2) (b .loop .st) (b .loop .i) (b .loop .inv) (c .loop-test .left), not-late b)
 
 pub play-run-spec : {M : Type 1} → statement M
 play-run-spec =

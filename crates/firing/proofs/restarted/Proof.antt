@@ -13,7 +13,7 @@ use Rattle.firing.proofs.restarted.Tie as tie
 
 abbrev Inv-loop : tie.InvT-loop
 Inv-loop take places transitions memory t since₀ now before middle later u₀ since u =
-    (u ≤ transitions) × Filled since₀ (renewed since₀ (restartIn take before middle later places memory t) now) u since
+    (u ≤ transitions) × Filled 0 since₀ (renewed since₀ (restartIn take before middle later places memory t) now) u since
 
 abbrev μ-loop : tie.MeasureT-loop
 μ-loop take places transitions memory t since₀ now before middle later u₀ since u = transitions - u
@@ -24,7 +24,7 @@ since-long s = search needs
 loop-holds : tie.Need-loop-holds Inv-loop μ-loop
 loop-holds c =
     let a = c .before .before .before .before .before .args in
-    (search needs, fill-start (a .st .since) (renewed (a .st .since) (restartIn (a .take .now) (a .st .marking) (a .m .middle) (a .m .later) (a .places) (a .memory) (a .t)) (a .st .now)))
+    (search needs, fill-start 0 (a .st .since) (renewed (a .st .since) (restartIn (a .take .now) (a .st .marking) (a .m .middle) (a .m .later) (a .places) (a .memory) (a .t)) (a .st .now)))
 
 slice-aggregate-restarts : tie.Need-slice-aggregate-restarts Inv-loop μ-loop
 slice-aggregate-restarts c = search needs

@@ -1,0 +1,56 @@
+-- Document 01, "Process", last paragraph: the replay prints `end`, the tokens of each place, and a line `clock` for each transition, in parts after the
+-- rest, `off` where not enabled.
+use Prim.Native.Nat.{ℕ, zero, suc}
+use mathlib.Core.Bool.{true, cond}
+use mathlib.Core.List.{List, [], _++_}
+use Rattle.reply.specs.declared.Checked.{Checked}
+use Rattle.reply.specs.declared.Checked.the-variants.{Passed, Refused}
+use Rattle.reply.specs.Respond.{Outcome, answer, refusal}
+use Rattle.text.specs.Decimal.{field}
+use Rattle.form.specs.Form.{Found, found, refused}
+use Rattle.form.specs.Line.{itemsText}
+use Rattle.net.specs.declared.Net.{Net}
+use Rattle.run.specs.declared.Run.{Run}
+use Rattle.firing.specs.declared.State.{State}
+use Rattle.firing.specs.declared.Played.{Played}
+use Rattle.firing.specs.Semantics.{enabled}
+use Rattle.firing.specs.Replay.{ruleOf, clockOf, replay}
+use Rattle.cards.specs.Cards.{runChecked, runCards}
+use Rattle.engine.specs.Keys.{endKey, clockKey, offLine}
+
+-- the line of one clock
+abbrev pub clockText : Net → State → ℕ → List ℕ
+clockText net st u = clockKey ++ cond (enabled net (st .marking) u) (field (clockOf st u) true) offLine
+
+-- the lines of the first n clocks
+unfoldable pub clocksText : Net → State → ℕ → List ℕ
+clocksText net st zero = []
+clocksText net st (suc u) = clocksText net st u ++ clockText net st u
+
+abbrev pub endText : Net → State → List ℕ
+endText net st = endKey ++ itemsText (st .marking) ++ clocksText net st (net .transitions)
+
+-- what a replay comes to: its end, or the first refusal
+abbrev pub ended : Net → Checked → State → Outcome
+ended net Passed st = answer (endText net st)
+ended net (Refused r) st = refusal r
+
+abbrev pub replayOf : Net → Run → Outcome
+replayOf net r = ended net (replay net (ruleOf net (r .memory)) r .checked) (replay net (ruleOf net (r .memory)) r .state)
+
+-- an operation on values: both are checked as their cards would be
+abbrev pub onceChecked : Checked → Outcome → Outcome
+onceChecked Passed o = o
+onceChecked (Refused r) o = refusal r
+
+-- an operation on cards: both are read first
+abbrev pub onceRead : {A : Type 0} → Found A → (A → Outcome) → Outcome
+onceRead (found a next) o = o a
+onceRead (refused r) o = refusal r
+
+-- the replay of a run of a net, over values and over cards
+abbrev pub replayValues : Net → Run → Outcome
+replayValues net r = onceChecked (runChecked net r) (replayOf net r)
+
+abbrev pub replayCards : List ℕ → Outcome
+replayCards s = onceRead (runCards s) (λ v. replayOf (v .0) (v .1))
