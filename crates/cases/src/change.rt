@@ -101,11 +101,11 @@ fn has_field(operation: Operation, field: Field) -> bool {
     match field {
         Field::Unknown => false,
         Field::Denominator | Field::Wait | Field::Rest => match operation {
-            Operation::RunValue => true,
+            Operation::RunValue | Operation::ReplayValue => true,
             _ => false,
         },
         Field::Firings | Field::Fire => match operation {
-            Operation::RunValue | Operation::OrderValue => true,
+            Operation::RunValue | Operation::OrderValue | Operation::ReplayValue => true,
             _ => false,
         },
         _ => true,

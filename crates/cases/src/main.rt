@@ -1,5 +1,5 @@
-// Runs each case of the file `cards` against the readers and writers of cards. Prints what a case got where that is not what it
-// expects, and last how many cases there are and how many were wrong.
+// Runs each case of its files against the operations of the engine. Prints what a case got where that is not what it expects, and for
+// each file how many cases there are and how many were wrong.
 mod change;
 mod lines;
 mod parts;
@@ -76,15 +76,17 @@ fn faults(s: &[u8], at: usize, next: usize) -> usize
     }
 }
 
-fn print_count(cases: usize, wrong: usize) {
+fn print_count(name: &[u8], cases: usize, wrong: usize) {
+    io::write_all(STDOUT_FILENO, name);
+    io::write_all(STDOUT_FILENO, b": ");
     io::print_decimal(STDOUT_FILENO, cases as u64);
     io::write_all(STDOUT_FILENO, b" cases, ");
     io::print_decimal(STDOUT_FILENO, wrong as u64);
     io::write_all(STDOUT_FILENO, b" wrong\n");
 }
 
-// Runs all cases of a text.
-fn run_all(s: &[u8]) {
+// Runs all cases of a file's text.
+fn run_all(name: &[u8], s: &[u8]) {
     let mut cases: usize = 0;
     let mut wrong: usize = 0;
     let mut at: usize = 0;
@@ -96,21 +98,28 @@ fn run_all(s: &[u8]) {
         }
         at = next;
     }
-    print_count(cases, wrong);
+    print_count(name, cases, wrong);
 }
 
-fn main() {
-    let fd = os::open_read(b"cards");
+// Runs all cases of a file.
+fn run_file(name: &[u8]) {
+    let fd = os::open_read(name);
     if fd < 0 {
-        os::fail(b"cards");
+        os::fail(name);
         return;
     }
     let mut file = io::large_buffer();
     let n = io::read_full(fd, &mut file);
     libc::close(fd);
     if n == 65536 {
-        io::write_all(STDOUT_FILENO, b"cards: too long\n");
+        io::write_all(STDOUT_FILENO, name);
+        io::write_all(STDOUT_FILENO, b": too long\n");
         return;
     }
-    run_all(&file[..n]);
+    run_all(name, &file[..n]);
+}
+
+fn main() {
+    run_file(b"cards");
+    run_file(b"replay");
 }

@@ -1,8 +1,8 @@
 // A case in the file: which operation it tries, and where its parts stand.
 use super::lines;
 
-// What a case tries. All but the first three have a line `with` and changes behind what they read first, and the last two a line
-// `card` and one more card behind that.
+// What a case tries. Those on values have a line `with` and changes behind what they read first, and those that read one card more a
+// line `card` and that card behind the changes.
 pub enum Operation {
     Net,
     Run,
@@ -12,6 +12,8 @@ pub enum Operation {
     OrderValue,
     ReadRun,
     ReadOrder,
+    Replay,
+    ReplayValue,
     Unknown,
 }
 
@@ -53,13 +55,23 @@ fn operation_at(s: &[u8], at: usize) -> Operation {
     if text::begins_at(s, at, b"readorder ") {
         return Operation::ReadOrder;
     }
+    if text::begins_at(s, at, b"replay ") {
+        return Operation::Replay;
+    }
+    if text::begins_at(s, at, b"replayvalue ") {
+        return Operation::ReplayValue;
+    }
     Operation::Unknown
 }
 
 // Whether a line `with` parts what an operation reads.
 fn has_changes(operation: Operation) -> bool {
     match operation {
-        Operation::Net | Operation::Run | Operation::Order | Operation::Unknown => false,
+        Operation::Net
+        | Operation::Run
+        | Operation::Order
+        | Operation::Replay
+        | Operation::Unknown => false,
         _ => true,
     }
 }

@@ -9,6 +9,7 @@ use form::LineRead;
 use net::Net;
 use reply::Refusal;
 use reply::Reply;
+use run::Run;
 ghost use mathlib.Core.Path.{_≡_};
 ghost use lib.ListN.{length};
 
@@ -145,8 +146,16 @@ fn net_reply(
     }
 }
 
-// A net card and a run card read, changed as values, and the run written.
-fn run_reply(input: &[u8], changes: &[u8], out: &mut [u8]) -> Reply {
+// What an operation on a run that was read and changed replies.
+fn of_run(operation: Operation, net: Net, timed: Run, out: &mut [u8]) -> Reply {
+    match operation {
+        Operation::ReplayValue => engine::replay(net, timed, out),
+        _ => cards::write_run(net, timed, out),
+    }
+}
+
+// A net card and a run card read and changed as values; the run is written or replayed.
+fn run_reply(operation: Operation, input: &[u8], changes: &[u8], out: &mut [u8]) -> Reply {
     let both = cards::read_run_cards(input);
     let read = both.read;
     match read {
@@ -155,7 +164,12 @@ fn run_reply(input: &[u8], changes: &[u8], out: &mut [u8]) -> Reply {
             let net = both.net;
             let timed = both.run;
             let net_value = change::changed_net(net, changes);
-            cards::write_run(net_value, change::changed_run(timed, changes), out)
+            of_run(
+                operation,
+                net_value,
+                change::changed_run(timed, changes),
+                out,
+            )
         }
     }
 }
@@ -184,7 +198,10 @@ fn reply_of(
     out: &mut [u8],
 ) -> Reply {
     match operation {
-        Operation::Run | Operation::RunValue => run_reply(input, changes, out),
+        Operation::Run | Operation::RunValue | Operation::ReplayValue => {
+            run_reply(operation, input, changes, out)
+        }
+        Operation::Replay => engine::replay_cards(input, out),
         Operation::Order | Operation::OrderValue => order_reply(input, changes, out),
         _ => net_reply(operation, input, changes, card, out),
     }

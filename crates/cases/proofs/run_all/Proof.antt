@@ -6,10 +6,10 @@ use Rattle.cases.proofs.run_all.Statement.{statement}
 use Rattle.cases.proofs.run_all.Tie as tie
 
 abbrev Inv-loop : tie.InvT-loop
-Inv-loop s cases₀ wrong₀ at₀ t6 cases wrong at = (cases ≤ at) × (wrong ≤ at)
+Inv-loop name s cases₀ wrong₀ at₀ t6 cases wrong at = (cases ≤ at) × (wrong ≤ at)
 
 abbrev μ-loop : tie.MeasureT-loop
-μ-loop s cases₀ wrong₀ at₀ t6 cases wrong at = length s - at
+μ-loop name s cases₀ wrong₀ at₀ t6 cases wrong at = length s - at
 
 loop-holds : tie.Need-loop-holds Inv-loop μ-loop
 loop-holds c = search needs
