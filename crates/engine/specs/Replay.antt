@@ -12,7 +12,6 @@ use Rattle.form.specs.Line.{itemsText}
 use Rattle.net.specs.declared.Net.{Net}
 use Rattle.run.specs.declared.Run.{Run}
 use Rattle.firing.specs.declared.State.{State}
-use Rattle.firing.specs.declared.Played.{Played}
 use Rattle.firing.specs.Semantics.{enabled}
 use Rattle.firing.specs.Replay.{ruleOf, clockOf, replay}
 use Rattle.cards.specs.Cards.{runChecked, runCards}

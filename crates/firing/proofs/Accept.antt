@@ -1,17 +1,16 @@
 -- Demand 2, first half, over whole runs: the replay accepts exactly the runs that the published semantics allows, ends in the same state, and refuses at the
 -- first firing that is not allowed.
-use Prim.Native.Nat.{ℕ, zero, suc, _+_, _≤_, _<_}
-use native.Mathlib.Nat.{add-zero}
+use Prim.Native.Nat.{ℕ, suc, _+_, _<_}
 use native.Mathlib.Omega.{arith}
 use mathlib.Core.Path.{_≡_, refl, sym, ap, subst, _∙_}
-use mathlib.Core.Bool.{Bool, true, false, cond, not, _&&_, _||_, and-eq-true-iff, or-true}
+use mathlib.Core.Bool.{Bool, true, false, cond, not, _&&_, _||_}
 use mathlib.Core.Logic.{_↔_}
-use mathlib.Core.List.{List, [], _∷_, _++_}
+use mathlib.Core.List.{List, [], _∷_}
 use lib.ListN.{length, getD, replicate, List·getD-eq-default, getD-replicate, length-replicate}
-use lib.Dec.{leb, eqb}
+use lib.Dec.{leb}
 use borrow.Author.Tests.{leb-false}
 use native.Mathlib.Decide.{decLt}
-use Rattle.laws.specs.All.{allBelow, all-one}
+use Rattle.laws.specs.All.{all-one}
 use Rattle.reply.specs.declared.Refusal.{Refusal}
 use Rattle.reply.specs.declared.Refusal.the-variants.{NotEnabled, OutsideInterval, TooManyTokens}
 use Rattle.reply.specs.declared.Checked.{Checked}
@@ -21,10 +20,10 @@ use Rattle.run.specs.declared.Firing.{Firing}
 use Rattle.run.specs.declared.Run.{Run}
 use Rattle.firing.specs.declared.State.{State}
 use Rattle.firing.specs.declared.Played.{Played}
-use Rattle.firing.specs.Semantics.{Restart, Timed, transitionAt, startMarking, enabled, taken, after, intermediate, atomic, Initial, Fires, Elapses, Steps, none, one, Allowed}
-use Rattle.firing.specs.Replay.{startState, waited, clockOf, inInterval, bounded, fired, judged, stepOn, play, firingsOf, rested, replay}
+use Rattle.firing.specs.Semantics.{Restart, Timed, startMarking, enabled, taken, after, intermediate, atomic, Initial, none, one, Allowed}
+use Rattle.firing.specs.Replay.{startState, waited, clockOf, inInterval, bounded, fired, judged, stepOn, play, firingsOf, replay}
 use Rattle.firing.specs.Claims.{OnTime, Because, FirstRefused}
-use Rattle.firing.proofs.Clocks.{view, Past, past-waited, past-fired, interval-true, bounded-true, taken-enabled}
+use Rattle.firing.proofs.Clocks.{view, Past, past-waited, past-fired, interval-true, taken-enabled}
 use Rattle.firing.proofs.Agree.{passes, view-elapses, view-fires, view-bounded, play-sound, Matches, Restarting, Replayed, play-complete, play-past, matches-waited}
 
 -- ---- why a judgement refuses

@@ -1,26 +1,21 @@
 -- The replay and the published semantics agree: a state of the replay stands for the published state with the same marking and, for each enabled
 -- transition, the same clock; a firing that the replay lets pass is one of the semantics, and the other way round.
-use Prim.Native.Nat.{ℕ, zero, suc, _+_, _-_, _*_, _≤_, _<_}
-use native.Mathlib.Nat.{le-refl}
+use Prim.Native.Nat.{ℕ, _+_}
 use native.Mathlib.Omega.{arith}
 use mathlib.Core.Path.{_≡_, refl, sym, ap, subst, _∙_}
-use mathlib.Core.Bool.{Bool, true, false, cond, not, _&&_, _||_}
-use mathlib.Core.Logic.{_↔_}
+use mathlib.Core.Bool.{Bool, true, false, cond}
 use mathlib.Core.List.{List, [], _∷_}
-use lib.ListN.{length, getD, replicate, List·getD-eq-default, getD-replicate, length-replicate}
-use lib.Dec.{eqb}
 use Rattle.reply.specs.declared.Refusal.{Refusal}
 use Rattle.reply.specs.declared.Refusal.the-variants.{NotEnabled, OutsideInterval, TooManyTokens}
 use Rattle.reply.specs.declared.Checked.{Checked}
 use Rattle.reply.specs.declared.Checked.the-variants.{Passed, Refused}
 use Rattle.net.specs.declared.Net.{Net}
 use Rattle.run.specs.declared.Firing.{Firing}
-use Rattle.run.specs.declared.Run.{Run}
 use Rattle.firing.specs.declared.State.{State}
 use Rattle.firing.specs.declared.Played.{Played}
-use Rattle.firing.specs.Semantics.{Restart, Timed, NotAfter, transitionAt, startMarking, enabled, taken, after, intermediate, atomic, Initial, Fires, Elapses, Bounded, Steps, none, one, Allowed}
-use Rattle.firing.specs.Replay.{startState, waited, clockOf, inInterval, bounded, fired, judged, stepOn, play, firingsOf, rested, replay}
-use Rattle.firing.proofs.Clocks.{view, Past, enabled-listed, past-waited, clock-waited, past-fired, clock-fired, interval-true, bounded-true, taken-enabled}
+use Rattle.firing.specs.Semantics.{Restart, Timed, enabled, after, Fires, Elapses, Bounded, Steps, none, one}
+use Rattle.firing.specs.Replay.{waited, clockOf, inInterval, bounded, fired, judged, stepOn, play}
+use Rattle.firing.proofs.Clocks.{view, Past, enabled-listed, past-waited, clock-waited, past-fired, clock-fired, interval-true, bounded-true}
 
 -- ---- a firing passes exactly when the three tests hold
 pub record Passes (net : Net) (D : ℕ) (st : State) (t : ℕ) : Type 0 where

@@ -3,22 +3,21 @@ use Prim.Native.Nat.{ℕ, _+_, _-_, _*_, _≤_, _<_}
 use native.Mathlib.Nat.{le-refl, sub-self}
 use native.Mathlib.Omega.{arith}
 use native.Mathlib.Decide.{decLt}
-use mathlib.Core.Path.{_≡_, refl, sym, ap, _∙_}
-use mathlib.Core.Bool.{Bool, true, false, cond, not, _&&_, _||_, and-eq-true-iff}
+use mathlib.Core.Path.{_≡_, refl}
+use mathlib.Core.Bool.{Bool, true, false, cond, and-eq-true-iff}
 use mathlib.Core.Logic.{_↔_}
 use mathlib.Core.List.{List}
-use lib.ListN.{length, getD, replicate, getD-replicate}
+use lib.ListN.{getD}
 use lib.Dec.{leb, ltb}
-use borrow.Author.Tests.{leb-true, le-leb, leb-false, ltb-true, ltb-false}
+use borrow.Author.Tests.{leb-true, le-leb, ltb-true}
 use Rattle.laws.specs.All.{allBelow, all-at, all-each}
 use Rattle.laws.specs.Tabled.{tabled, entry, entry-past}
-use Rattle.reply.specs.declared.Checked.the-variants.{Passed}
 use Rattle.net.specs.declared.Latest.{Latest}
 use Rattle.net.specs.declared.Latest.the-variants.{Unbounded, Ticks}
 use Rattle.net.specs.declared.Net.{Net}
 use Rattle.firing.specs.declared.State.{State}
 use Rattle.firing.specs.Semantics.{Restart, Timed, NotAfter, takes, gives, transitionAt, enabled, taken, after}
-use Rattle.firing.specs.Replay.{waited, clockOf, notAfter, inInterval, bounded, fired, judged}
+use Rattle.firing.specs.Replay.{waited, clockOf, notAfter, inInterval, bounded, fired}
 
 -- the published state that a state of the replay stands for
 abbrev pub view : State → Timed

@@ -1,5 +1,5 @@
 -- The replay of a run, computed: firing by firing 5, then 7, then 6.
-use Prim.Native.Nat.{ℕ, _+_, _-_, _*_, suc}
+use Prim.Native.Nat.{ℕ, _+_, _-_, _*_}
 use mathlib.Core.Bool.{Bool, true, cond, _&&_}
 use mathlib.Core.List.{List, [], _∷_}
 use lib.ListN.{getD, replicate}
@@ -7,7 +7,6 @@ use lib.Dec.{leb}
 use Rattle.laws.specs.All.{allBelow}
 use Rattle.laws.specs.Slots.{firstOf}
 use Rattle.laws.specs.Tabled.{tabled}
-use Rattle.reply.specs.declared.Refusal.{Refusal}
 use Rattle.reply.specs.declared.Refusal.the-variants.{NotEnabled, OutsideInterval, TooManyTokens}
 use Rattle.reply.specs.declared.Checked.{Checked}
 use Rattle.reply.specs.declared.Checked.the-variants.{Passed, Refused}

@@ -3,7 +3,6 @@ use Prim.Native.Nat.{ℕ, _+_}
 use mathlib.Core.Bool.{true, cond}
 use mathlib.Core.List.{List}
 use lib.ListN.{length, drop, replicate}
-use Rattle.reply.specs.declared.Refusal.{Refusal}
 use Rattle.text.specs.declared.NumberRead.{NumberRead}
 use Rattle.text.specs.declared.NumberRead.the-variants.{NoNumber}
 use Rattle.text.specs.Key.{beginsWith}

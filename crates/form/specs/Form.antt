@@ -1,7 +1,7 @@
 -- A form says how a part of a card is written, checked and read. Every card is one form, put together from the forms of its lines, so that
 -- reader, writer and check are judged by one description.
 use Prim.Native.Nat.{ℕ, zero, suc, _+_}
-use mathlib.Core.Bool.{Bool, cond}
+use mathlib.Core.Bool.{cond}
 use mathlib.Core.List.{List, [], _∷_, _++_, map}
 use lib.ListN.{length, drop}
 use lib.Dec.{leb}

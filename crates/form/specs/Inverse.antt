@@ -4,7 +4,7 @@ use mathlib.Core.Path.{_≡_}
 use mathlib.Core.List.{List, _++_}
 use lib.ListN.{length, take, drop}
 use Rattle.reply.specs.declared.Checked.the-variants.{Passed}
-use Rattle.form.specs.Form.{Found, found, Form}
+use Rattle.form.specs.Form.{found, Form}
 
 -- a value that was read: its text stands there, it passes the check, and it is clean
 pub record WasRead {A : Type 0} (f : Form A) (a : A) (s : List ℕ) (at next line : ℕ) : Type 0 where

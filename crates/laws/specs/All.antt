@@ -1,5 +1,5 @@
 -- A test of every number below a bound, and what a loop that is left at the first failure needs of it.
-use Prim.Native.Nat.{ℕ, zero, suc, _+_, _<_, _≤_}
+use Prim.Native.Nat.{ℕ, zero, suc, _+_, _<_}
 use native.Mathlib.Nat.{le-of-suc-le-suc, not-suc-le-zero, eq-or-lt-of-le, lt-trans, lt-suc-self}
 use native.Mathlib.Numerals.{add-one}
 use native.Mathlib.Omega.{arith}

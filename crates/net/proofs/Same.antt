@@ -1,12 +1,11 @@
 -- What was read back is the same net: cleaning changes no slot that counts.
-use Prim.Native.Nat.{ℕ, _<_}
-use mathlib.Core.Path.{_≡_, refl, sym, subst, ap}
+use Prim.Native.Nat.{ℕ}
+use mathlib.Core.Path.{_≡_, refl, sym, subst}
 use mathlib.Core.List.{List, _++_}
 use lib.ListN.{length, getD}
 use Rattle.laws.specs.Slots.{getD-kept, getD-changed}
 use Rattle.reply.specs.declared.Checked.the-variants.{Passed}
 use Rattle.form.specs.Form.{found}
-use Rattle.form.proofs.Found.{found-value}
 use Rattle.net.specs.declared.Transition.{Transition}
 use Rattle.net.specs.declared.Net.{Net}
 use Rattle.net.specs.Net.{noTransition, transition, netCard}

@@ -1,6 +1,6 @@
 -- What the functions of this crate return, for what the forms find.
 use Prim.Native.Nat.{ℕ}
-use mathlib.Core.List.{List, []}
+use mathlib.Core.List.{List}
 use lib.ListN.{replicate}
 use Rattle.reply.specs.declared.Checked.{Checked}
 use Rattle.reply.specs.declared.Checked.the-variants.{Passed, Refused}

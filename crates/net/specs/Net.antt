@@ -1,7 +1,7 @@
 -- Document 01, "Cards": the net card, line by line.
 use Prim.Native.Nat.{ℕ, _+_}
 use mathlib.Core.Bool.{true, cond}
-use mathlib.Core.List.{List, []}
+use mathlib.Core.List.{List}
 use lib.ListN.{length, drop, replicate}
 use lib.Dec.{ltb}
 use Rattle.reply.specs.declared.Refusal.the-variants.{LatestBelowEarliest}
@@ -10,7 +10,7 @@ use Rattle.reply.specs.declared.Checked.the-variants.{Passed, Refused}
 use Rattle.text.specs.Key.{beginsWith}
 use Rattle.text.specs.Number.{fieldAt}
 use Rattle.text.specs.Decimal.{field}
-use Rattle.form.specs.Form.{Found, found, andThen, judged, also, Form, keyed, chain, times, held}
+use Rattle.form.specs.Form.{found, andThen, judged, also, Form, keyed, chain, times, held}
 use Rattle.form.specs.Line.{formed, ranged, number, items}
 use Rattle.net.specs.declared.Latest.{Latest}
 use Rattle.net.specs.declared.Latest.the-variants.{Unbounded, Ticks}

@@ -1,6 +1,6 @@
 -- What was read back is the same run, or the same order: cleaning changes no slot that counts.
 use Prim.Native.Nat.{ℕ}
-use mathlib.Core.Path.{_≡_, refl}
+use mathlib.Core.Path.{refl}
 use Rattle.laws.specs.Slots.{getD-changed}
 use Rattle.run.specs.declared.Run.{Run}
 use Rattle.run.specs.declared.Order.{Order}

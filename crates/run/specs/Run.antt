@@ -6,7 +6,7 @@ use lib.ListN.{length, drop}
 use Rattle.reply.specs.declared.Refusal.the-variants.{Malformed}
 use Rattle.reply.specs.declared.Checked.the-variants.{Passed}
 use Rattle.text.specs.Key.{beginsWith}
-use Rattle.form.specs.Form.{Found, found, refused, Form, keyed, chain, times, held}
+use Rattle.form.specs.Form.{found, refused, Form, keyed, chain, times, held}
 use Rattle.form.specs.Line.{ranged, listed, number}
 use Rattle.run.specs.declared.Memory.{Memory}
 use Rattle.run.specs.declared.Memory.the-variants.{Intermediate, Atomic}

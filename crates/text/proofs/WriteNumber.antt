@@ -1,23 +1,22 @@
 -- A number is written digit by digit, the highest first: what stands behind the digits written are the digits of the remainder.
 -- Its width is found from below: the first power of ten that is more than the number, and a number of 64 bits is less than 10 ^ 20.
-use Prim.Native.Nat.{ℕ, zero, suc, _+_, _-_, _*_, _/_, _%_, _^_, _≤_, _<_, suc-le-suc}
+use Prim.Native.Nat.{ℕ, zero, suc, _+_, _-_, _*_, _/_, _%_, _^_, _≤_, _<_}
 use native.Mathlib.Numerals.{add-one}
 use native.Mathlib.Nat.{mod-lt, div-lt-iff-lt-mul, pow-suc, pow-le-pow-right, one-le-pow, add-zero, not-suc-le-zero}
 use native.Mathlib.Omega.{arith}
-use mathlib.Core.Bool.{Bool, true, false, cond}
+use mathlib.Core.Bool.{Bool}
 use mathlib.Core.Logic.{_⊎_, inl, inr}
 use mathlib.Core.List.{List, [], _∷_}
 use mathlib.Core.Path.{_≡_, refl, sym, ap, _∙_}
 use lib.ListN.{length, getD, drop, set, length-append}
 use lib.Seq.{drop-drop, getD-drop, paste, paste-zero, paste-suc, length-paste, take-length}
-use lib.Dec.{leb, lit<}
-use borrow.Author.Tests.{le-leb, lt-leb, leb-true, leb-false}
+use lib.Dec.{lit<}
 use Rattle.laws.specs.Tabled.{tabled, entry}
 use Rattle.laws.specs.Splice.{Wrote, wrote-then, wrote-length}
 use Rattle.laws.specs.Writes.{wrote-byte}
 use Rattle.text.specs.Decimal.{digits, width, decimal, field}
 use Rattle.text.specs.Number.{separator}
-use Rattle.text.proofs.DecimalLaws.{length-digits, width-right, width-unique, decimal-width}
+use Rattle.text.proofs.DecimalLaws.{width-right, width-unique, decimal-width}
 
 -- ---- the powers of ten
 abbrev pub powers : List ℕ

@@ -1,7 +1,7 @@
 -- Document 01, "Cards": a number is one to nine decimal digits without a leading zero, 0 itself excepted.
 use Prim.Native.Nat.{ℕ, _+_, _-_, _*_}
 use mathlib.Core.List.{List, [], _∷_}
-use mathlib.Core.Bool.{Bool, true, false, not, cond, _&&_, _||_}
+use mathlib.Core.Bool.{Bool, not, cond, _&&_, _||_}
 use lib.ListN.{length, getD, drop}
 use lib.Dec.{leb, eqb}
 use Rattle.text.specs.declared.ByteClass.{ByteClass}

@@ -15,7 +15,7 @@ use Rattle.run.specs.declared.Firing.{Firing}
 use Rattle.firing.specs.declared.State.{State}
 use Rattle.firing.specs.Semantics.{Restart, transitionAt, startMarking, enabled, after}
 use Rattle.firing.specs.Replay.{startState, waited, bounded, fired}
-use Rattle.timing.specs.Timing.{Upper, atMost, below, unbounded, Win, windows, Feasible}
+use Rattle.timing.specs.Timing.{Upper, atMost, unbounded, Win, windows, Feasible}
 
 -- firing number n, of t, judged by its tokens alone: 5, then 6
 unfoldable pub tokensJudged : Net → List ℕ → ℕ → ℕ → Checked

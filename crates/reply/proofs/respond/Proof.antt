@@ -1,5 +1,5 @@
 -- The copy is that of the kit's `bytes::copy`; which case of `respond` holds is the test of the two lengths.
-use mathlib.Core.Path.{_≡_, refl, ap, _∙_}
+use mathlib.Core.Path.{ap, _∙_}
 use Prim.Native.Nat.{ℕ}
 use mathlib.Core.List.{List, _++_}
 use lib.ListN.{length, drop}
