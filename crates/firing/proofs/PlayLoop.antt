@@ -26,6 +26,12 @@ use Rattle.firing.proofs.Clocks.{Past, past-waited, past-fired}
 use Rattle.firing.proofs.Accept.{start-past}
 use Rattle.firing.proofs.RowLaws.{unlisted, judged-same, fired-same}
 
+-- the start, in arrays
+pub start-standing : (net : Net) (st : State) → firstOf (net .places) 0 (st .marking) ≡ firstOf (net .places) 0 (net .start) → st .since ≡ replicate 32 0 → st .now ≡ 0
+    → startState net ≡ standing (net .places) (net .transitions) st
+unfolding startState startMarking
+start-standing net st m s z = rw (m, s, z, first-replicate {A = ℕ} (net .transitions) 0 32) refl
+
 module _ (net : Net) (run : Run) where
   -- a state, and a result, without the slots past the counts
   abbrev counted : State → State
@@ -49,8 +55,7 @@ module _ (net : Net) (run : Run) where
 
   module _ (st : State) (m : firstOf (net .places) 0 (st .marking) ≡ firstOf (net .places) 0 (net .start)) (s : st .since ≡ replicate 32 0) (z : st .now ≡ 0) where
     at-start : startState net ≡ counted st
-    unfolding startState startMarking
-    at-start = rw (m, s, z, first-replicate {A = ℕ} (net .transitions) 0 32) refl
+    at-start = start-standing net st m s z
 
     pub playing-start : Playing st 0
     playing-start =

@@ -85,7 +85,7 @@ module _ (net : Net) where
   enough-own m t l = enough-row (transitionAt net t .take) 0 m t l (λ p b. ap (λ (i : ℕ). getD (transitionAt net t .take) i 0) (zero-add p))
 
 module _ (net : Net) (rows : Rows) (held : Holds rows (net .table) (net .transitions)) (few : net .places ≤ 16) where
-  enough-same : (m : List ℕ) (t : ℕ) → t < net .transitions → enoughIn (rows .take) (16 * t) m (net .places) ≡ enabled net (marked net m) t
+  pub enough-same : (m : List ℕ) (t : ℕ) → t < net .transitions → enoughIn (rows .take) (16 * t) m (net .places) ≡ enabled net (marked net m) t
   enough-same m t l = enough-row net (rows .take) (16 * t) m t l (λ p h. held .taken t p l (omega arith))
 
   module _ (m : List ℕ) (t : ℕ) (l : t < net .transitions) where
@@ -95,7 +95,7 @@ module _ (net : Net) (rows : Rows) (held : Holds rows (net .table) (net .transit
     later-same : (p : ℕ) → p < net .places → holds (rows .take) (rows .give) (16 * t) m p ≡ getD (marked net m) p 0 - takes net t p + gives net t p
     later-same p h = rw (left-same p h, held .given t p l (omega arith)) refl
 
-    limit-same : limitIn (rows .take) (rows .give) (16 * t) m (net .places) ≡ bounded net (after net (marked net m) t)
+    pub limit-same : limitIn (rows .take) (rows .give) (16 * t) m (net .places) ≡ bounded net (after net (marked net m) t)
     unfolding limitIn bounded after
     limit-same =
         all-same (keepsLimit (rows .take) (rows .give) (16 * t) m) (λ p. leb (getD (after net (marked net m) t) p 0) 255) (net .places)

@@ -44,7 +44,7 @@ pub struct Moved {
 }
 
 // Whether every place has the tokens that a row asks for; the first place found short settles the matter.
-fn enough(take: &[u32], row: usize, marking: &[u32], places: usize) -> bool
+pub fn enough(take: &[u32], row: usize, marking: &[u32], places: usize) -> bool
     requires { ⌜ (row + places ≤ length (now take)) × (places ≤ length (now marking)) ⌝ }
     ensures { λ r. ⌜ r ≡ enoughIn (now (take .entry)) row (now (marking .entry)) places ⌝ }
 {
@@ -61,7 +61,7 @@ fn enough(take: &[u32], row: usize, marking: &[u32], places: usize) -> bool
 }
 
 // Whether no place passes 255 tokens when an enabled row is taken and another given.
-fn within_limit<'a>(
+pub fn within_limit<'a>(
     take: &'a [u32],
     give: &'a [u32],
     row: usize,
@@ -211,7 +211,7 @@ fn judge<'a>(
 }
 
 // The state after a firing of t that passed its judgement.
-fn fire<'a>(
+pub fn fire<'a>(
     take: &'a [u32],
     give: &'a [u32],
     st: State,
@@ -248,7 +248,7 @@ fn put_row(flat: &mut [u32], row: usize, weights: [u32; 16])
 }
 
 // The weights of a table's first transitions, in rows.
-fn rows_of(table: [Transition; 32], transitions: usize) -> Rows
+pub fn rows_of(table: [Transition; 32], transitions: usize) -> Rows
     requires { ⌜ transitions ≤ 32 ⌝ }
     ensures { λ r. ⌜ Holds r table transitions ⌝ }
 {
@@ -267,7 +267,7 @@ fn rows_of(table: [Transition; 32], transitions: usize) -> Rows
 }
 
 // The start: the tokens of the net's start, every clock counted from instant 0.
-fn start(tokens: [u32; 16], places: usize) -> State
+pub fn start(tokens: [u32; 16], places: usize) -> State
     requires { ⌜ places ≤ 16 ⌝ }
     ensures { λ r. ⌜ (firstOf places 0 (r .marking) ≡ firstOf places 0 tokens) × (r .since ≡ replicate 32 0) × (r .now ≡ 0) ⌝ }
 {

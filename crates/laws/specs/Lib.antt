@@ -1,6 +1,7 @@
 pub mod All
 pub mod Div
 pub mod Each
+pub mod EachAt
 pub mod FourWriters
 pub mod Front
 pub mod Joined
@@ -14,4 +15,5 @@ pub mod SplicedEntries
 pub mod Sum
 pub mod Tabled
 pub mod TwoTexts
+pub mod WholeParts
 pub mod Writes

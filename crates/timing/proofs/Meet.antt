@@ -50,7 +50,7 @@ within-latest : (D : ℕ) (l : Latest) (x y : ℕ) → x ≤ y → NotAfter D l 
 within-latest D Unbounded x y h = (λ e. tt, λ e. tt)
 within-latest D (Ticks b) x y h = (λ e. omega arith, λ e. omega arith)
 
-refused-not : {r : Refusal} → Refused r ≡ Passed → ⊥
+pub refused-not : {r : Refusal} → Refused r ≡ Passed → ⊥
 refused-not e = let z : _≡_ {A = ℕ} 0 1 = cc in omega arith
 
 pub tokens-passed : (net : Net) (m : List ℕ) (t n : ℕ) → tokensJudged net m t n ≡ Passed → (enabled net m t ≡ true) × (bounded net (after net m t) ≡ true)
@@ -110,7 +110,7 @@ module _ (net : Net) (restarts : Restart) (D : ℕ) (S : ℕ → ℕ) (k : ℕ) 
       go u (no n) = since-past net restarts (waited st w) t u (omega arith) ∙ sym origin ∙ ap S (sym (since-past net restarts (waited course 1) t u (omega arith)))
 
 -- ---- whole runs
-step-passed : (c : Checked) (st : State) (later : Played) → stepOn c st later .checked ≡ Passed → (c ≡ Passed) × (later .checked ≡ Passed)
+pub step-passed : (c : Checked) (st : State) (later : Played) → stepOn c st later .checked ≡ Passed → (c ≡ Passed) × (later .checked ≡ Passed)
 step-passed Passed st later e = (refl, e)
 step-passed (Refused r) st later e = absurd (refused-not e)
 

@@ -4,3 +4,5 @@ pub mod Solve
 pub mod Starred
 pub mod Claims
 pub mod Schedule
+pub mod Rounding
+pub mod Collect

@@ -1,1 +1,172 @@
-// Timings of firing orders.
+// Timings of firing orders: a run rounded to whole ticks, and the windows of an order's firings.
+use net::Latest;
+use net::Net;
+use reply::Checked;
+use reply::Refusal;
+use run::Firing;
+use run::Order;
+use run::Run;
+ghost use mathlib.Core.Path.{_≡_};
+ghost use Prim.Native.Nat.{_≤_, _<_};
+ghost use lib.ListN.{length};
+ghost use Rattle.laws.specs.Slots.{firstOf};
+ghost use Rattle.firing.specs.Replay.{ruleOf};
+ghost use Rattle.timing.specs.Rounding.{roundedRun};
+ghost use Rattle.timing.specs.Collect.{tokensIn, boundOf, Collects};
+
+// The upper bound of a window, in ticks: none where it is not closed.
+pub struct Bound {
+    pub closed: bool,
+    pub high: u64,
+}
+
+// The windows of an order's firings, in ticks. The window of each is counted from an earlier firing, its origin (0 is the beginning, 1 the first firing).
+// If the tokens forbid the order, only the refusal counts. Slots past the order's count are no part of it.
+pub struct Collected {
+    pub checked: Checked,
+    pub origin: [usize; 64],
+    pub low: [u64; 64],
+    pub closed: [bool; 64],
+    pub high: [u64; 64],
+}
+
+// A run with each instant, the end included, rounded down to whole ticks.
+pub fn rounded_run(run: Run) -> Run
+    requires { ⌜ (run .count ≤ 64) × (0 < run .denominator) ⌝ }
+    ensures { λ r. ⌜ r ≡ roundedRun run ⌝ }
+{
+    let none = Firing { wait: 0, fire: 0 };
+    let mut firings = [none; 64];
+    let memory = run.memory;
+    let count = run.count;
+    let d = run.denominator as u64;
+    let mut s: u64 = 0;
+    let mut i: usize = 0;
+    while i < count {
+        let f = run.firings[i];
+        let later = s + f.wait as u64;
+        firings[i] = Firing {
+            wait: (later / d - s / d) as u32,
+            fire: f.fire,
+        };
+        s = later;
+        i += 1;
+    }
+    let end = s + run.rest as u64;
+    Run {
+        memory,
+        denominator: 1,
+        count,
+        firings,
+        rest: (end / d - s / d) as u32,
+    }
+}
+
+// The judgement of firing number n, of t, by its tokens alone.
+fn judge_tokens<'a>(
+    take: &'a [u32],
+    give: &'a [u32],
+    marking: [u32; 16],
+    places: usize,
+    t: usize,
+    n: usize,
+) -> Checked
+    requires { ⌜ (places ≤ 16) × (t < 32) × (length (now take) ≡ 512) × (length (now give) ≡ 512) ⌝ }
+    ensures { λ r. ⌜ r ≡ tokensIn (now (take .entry)) (now (give .entry)) marking places t n ⌝ }
+{
+    if firing::enough(take, 16 * t, &marking, places) {
+        if firing::within_limit(take, give, 16 * t, &marking, places) {
+            Checked::Passed
+        } else {
+            Checked::Refused(Refusal::TooManyTokens(n))
+        }
+    } else {
+        Checked::Refused(Refusal::NotEnabled(n))
+    }
+}
+
+// The upper bound that a transition sets.
+fn bound_of(latest: Latest) -> Bound
+    ensures { λ r. ⌜ r ≡ boundOf latest ⌝ }
+{
+    match latest {
+        Latest::Unbounded => Bound {
+            closed: false,
+            high: 0,
+        },
+        Latest::Ticks(b) => Bound {
+            closed: true,
+            high: b as u64,
+        },
+    }
+}
+
+// A transition's number as an index.
+fn index(number: u32) -> usize
+    ensures { λ r. ⌜ r ≡ number ⌝ }
+{
+    number as usize
+}
+
+// What the tokens say of an order, and the window of each firing.
+pub fn collect(net: Net, order: Order) -> Collected
+    requires { ⌜ (net .places ≤ 16) × (net .transitions ≤ 32) × (order .count ≤ 64) ⌝ }
+    ensures { λ r. ⌜ Collects net (ruleOf net (order .memory)) (firstOf (order .count) 0 (order .fires)) r ⌝ }
+{
+    let places = net.places;
+    let transitions = net.transitions;
+    let table = net.table;
+    let tokens = net.start;
+    let count = order.count;
+    let memory = order.memory;
+    let mut origin = [0usize; 64];
+    let mut low = [0u64; 64];
+    let mut closed = [false; 64];
+    let mut high = [0u64; 64];
+    let rows = firing::rows_of(table, transitions);
+    let take = rows.take;
+    let give = rows.give;
+    let mut st = firing::start(tokens, places);
+    let mut i: usize = 0;
+    while i < count {
+        let t = index(order.fires[i]);
+        if transitions <= t {
+            return Collected {
+                checked: Checked::Refused(Refusal::NotEnabled(i + 1)),
+                origin,
+                low,
+                closed,
+                high,
+            };
+        }
+        let marking = st.marking;
+        let c = judge_tokens(&take, &give, marking, places, t, i + 1);
+        let Checked::Passed = c else {
+            return Collected {
+                checked: c,
+                origin,
+                low,
+                closed,
+                high,
+            };
+        };
+        let tr = net.table[t];
+        let latest = tr.latest;
+        let b = bound_of(latest);
+        origin[i] = st.since[t] as usize;
+        low[i] = tr.earliest as u64;
+        closed[i] = b.closed;
+        high[i] = b.high;
+        let mut later = st;
+        later.now = st.now + 1;
+        st = firing::fire(&take, &give, later, places, transitions, memory, t);
+        i += 1;
+    }
+    Collected {
+        checked: Checked::Passed,
+        origin,
+        low,
+        closed,
+        high,
+    }
+}

@@ -1,0 +1,223 @@
+-- The rounded run of an accepted run is a run: its waits are the rounded waits, which are a timing of the same order in whole ticks. No number of it is
+-- over that of the run, so its card passes the checks. A timing in whole ticks makes a run likewise.
+use Prim.Native.Nat.{ℕ, zero, suc, _+_, _*_, _-_, _/_, _≤_, _<_}
+use native.Mathlib.Nat.{le-of-suc-le-suc, not-suc-le-zero}
+use native.Mathlib.Omega.{arith}
+use mathlib.Core.Path.{_≡_, refl, sym, ap, _∙_}
+use mathlib.Core.List.{List, [], _∷_}
+use lib.ListN.{length, getD, take}
+use Rattle.laws.specs.Div.{div-le}
+use Rattle.laws.specs.Each.{Each}
+use Rattle.laws.specs.EachAt.{each-of}
+use Rattle.laws.specs.Slots.{firstOf, length-first, first-pad}
+use Rattle.laws.specs.WholeParts.{div-sum-le, whole-near, difference-near}
+use Rattle.reply.specs.declared.Checked.the-variants.{Passed}
+use Rattle.net.specs.declared.Net.{Net}
+use Rattle.run.specs.declared.Memory.{Memory}
+use Rattle.run.specs.declared.Firing.{Firing}
+use Rattle.run.specs.declared.Run.{Run}
+use Rattle.run.specs.declared.Order.{Order}
+use Rattle.run.specs.Run.{noFiring, runCard, orderCard}
+use Rattle.firing.specs.Semantics.{Restart, transitionAt}
+use Rattle.firing.specs.Replay.{startState, play, firingsOf, replay}
+use Rattle.timing.specs.Windows.{orderOf, waitsOf, instants, Timing}
+use Rattle.timing.specs.Schedule.{timed, schedule, roundedFrom, roundedWaits}
+use Rattle.timing.specs.Rounding.{zipFirings, lastInstant, endInstant, roundedRun, timetableRun}
+use Rattle.timing.proofs.Meet.{length-order, length-waits}
+use Rattle.timing.proofs.Instants.{wait-le, length-rounded, rounded-instants}
+use Rattle.timing.proofs.Timings.{run-timing, rounded-timing}
+use Rattle.timing.proofs.Scheduled.{scheduled-timing, scheduled-early}
+use Rattle.timing.proofs.RunCards.{FiringFits, run-fits, order-fits}
+use Rattle.timing.proofs.Markings.{order-markings}
+
+-- ---- the firings of an order after waits
+pub order-zip : (ws order : List ℕ) → length ws ≡ length order → orderOf (zipFirings ws order) ≡ order
+unfolding zipFirings orderOf
+order-zip [] [] e = refl
+order-zip [] (t ∷ order) e = absurd (omega arith)
+order-zip (w ∷ ws) [] e = absurd (omega arith)
+order-zip (w ∷ ws) (t ∷ order) e = ap (λ (l : List ℕ). t ∷ l) (order-zip ws order (omega arith))
+
+pub waits-zip : (ws order : List ℕ) → length ws ≡ length order → waitsOf (zipFirings ws order) ≡ ws
+unfolding zipFirings waitsOf
+waits-zip [] [] e = refl
+waits-zip [] (t ∷ order) e = absurd (omega arith)
+waits-zip (w ∷ ws) [] e = absurd (omega arith)
+waits-zip (w ∷ ws) (t ∷ order) e = ap (λ (l : List ℕ). w ∷ l) (waits-zip ws order (omega arith))
+
+pub length-zip : (ws order : List ℕ) → length ws ≡ length order → length (zipFirings ws order) ≡ length order
+length-zip ws order e = sym (length-order (zipFirings ws order)) ∙ ap length (order-zip ws order e)
+
+-- ---- a run of the given waits and order
+module _ (memory : Memory) (order waits : List ℕ) (e : length waits ≡ length order) where
+  pub timetable-firings : firingsOf (timetableRun memory order waits) ≡ zipFirings waits order
+  unfolding firingsOf timetableRun
+  timetable-firings = first-pad (length order) 64 noFiring (zipFirings waits order) (length-zip waits order e)
+
+  pub timetable-order : orderOf (firingsOf (timetableRun memory order waits)) ≡ order
+  timetable-order = ap orderOf timetable-firings ∙ order-zip waits order e
+
+  pub timetable-waits : waitsOf (firingsOf (timetableRun memory order waits)) ≡ waits
+  timetable-waits = ap waitsOf timetable-firings ∙ waits-zip waits order e
+
+zip-accepted : (net : Net) (restarts : Restart) (order waits : List ℕ) → Timing net restarts 1 order waits
+    → play net restarts 1 (zipFirings waits order) (startState net) 0 .checked ≡ Passed
+zip-accepted net restarts order waits t =
+    run-timing net restarts 1 (zipFirings waits order) .1 (rw (order-zip waits order (t .complete), waits-zip waits order (t .complete)) t)
+
+-- a timing in whole ticks makes an accepted run
+pub timetable-accepted : (net : Net) (restarts : Restart) (memory : Memory) (order waits : List ℕ) → Timing net restarts 1 order waits
+    → replay net restarts (timetableRun memory order waits) .checked ≡ Passed
+unfolding replay timetableRun
+timetable-accepted net restarts memory order waits t =
+    ap (λ (fs : List Firing). play net restarts 1 fs (startState net) 0 .checked) (timetable-firings memory order waits (t .complete)) ∙ zip-accepted net restarts order waits t
+
+-- ---- the rounded run
+module _ (r : Run) where
+  abbrev D : ℕ
+  D = r .denominator
+
+  abbrev fs : List Firing
+  fs = firingsOf r
+
+  pub rounded-sizes : length (roundedWaits D (waitsOf fs)) ≡ length (orderOf fs)
+  rounded-sizes = length-rounded D (waitsOf fs) ∙ length-waits fs ∙ sym (length-order fs)
+
+  pub length-firings : length fs ≡ r .count
+  unfolding firingsOf
+  length-firings = length-first (r .count) noFiring (r .firings)
+
+  pub count-rounded : length (zipFirings (roundedWaits D (waitsOf fs)) (orderOf fs)) ≡ r .count
+  count-rounded = length-zip _ _ rounded-sizes ∙ length-order fs ∙ length-firings
+
+  pub rounded-firings : firingsOf (roundedRun r) ≡ zipFirings (roundedWaits D (waitsOf fs)) (orderOf fs)
+  unfolding firingsOf roundedRun
+  rounded-firings = first-pad (r .count) 64 noFiring (zipFirings (roundedWaits D (waitsOf fs)) (orderOf fs)) count-rounded
+
+  pub rounded-order : orderOf (firingsOf (roundedRun r)) ≡ orderOf fs
+  rounded-order = ap orderOf rounded-firings ∙ order-zip _ _ rounded-sizes
+
+  pub rounded-waits : waitsOf (firingsOf (roundedRun r)) ≡ roundedWaits D (waitsOf fs)
+  rounded-waits = ap waitsOf rounded-firings ∙ waits-zip _ _ rounded-sizes
+
+  last-firing : lastInstant (roundedRun r) ≡ instants (roundedWaits D (waitsOf fs)) (length fs)
+  unfolding lastInstant
+  last-firing =
+      ap (λ (ws : List ℕ). instants ws (length (firingsOf (roundedRun r)))) rounded-waits
+      ∙ ap (instants (roundedWaits D (waitsOf fs))) (sym (length-order (firingsOf (roundedRun r))) ∙ ap length rounded-order ∙ length-order fs)
+
+  module _ (d : 0 < r .denominator) where
+    -- each instant is the run's, rounded down
+    pub rounded-instant : (i : ℕ) → instants (waitsOf (firingsOf (roundedRun r))) i ≡ instants (waitsOf fs) i / D
+    rounded-instant i = ap (λ (ws : List ℕ). instants ws i) rounded-waits ∙ rounded-instants D d (waitsOf fs) i
+
+    -- and so is the end
+    rounded-last : lastInstant (roundedRun r) ≡ lastInstant r / D
+    unfolding lastInstant
+    rounded-last = last-firing ∙ rounded-instants D d (waitsOf fs) (length fs)
+
+    pub rounded-end : endInstant (roundedRun r) ≡ endInstant r / D
+    unfolding endInstant roundedRun
+    rounded-end = let up : lastInstant r / D ≤ (lastInstant r + r .rest) / D = div-le D d (omega arith) in omega (arith, rounded-last)
+
+    module _ (net : Net) (restarts : Restart) (e : replay net restarts r .checked ≡ Passed) where
+      -- it is still a run
+      pub rounded-accepted : replay net restarts (roundedRun r) .checked ≡ Passed
+      unfolding replay roundedRun
+      rounded-accepted =
+          ap (λ (gs : List Firing). play net restarts 1 gs (startState net) 0 .checked) rounded-firings
+          ∙ zip-accepted net restarts (orderOf fs) (roundedWaits D (waitsOf fs))
+          (rounded-timing net restarts (orderOf fs) D d (waitsOf fs) (run-timing net restarts D fs .0 e))
+
+      -- with the same marking after each firing
+      pub same-markings : (i : ℕ) → play net restarts D (take i fs) (startState net) 0 .state .marking
+          ≡ play net restarts 1 (take i (firingsOf (roundedRun r))) (startState net) 0 .state .marking
+      unfolding replay roundedRun
+      same-markings i = order-markings net restarts D 1 fs (firingsOf (roundedRun r)) (sym rounded-order) e rounded-accepted i
+
+-- ---- numbers of the rounded run
+-- of firings whose numbers lie in their ranges, the waits and the order, and back
+abbrev Waits : List ℕ → Type 0
+Waits ws = Each (λ w. w ≤ 10000000) ws
+
+waits-fit : (transitions : ℕ) (fs : List Firing) → Each (FiringFits transitions) fs → Waits (waitsOf fs)
+unfolding waitsOf
+waits-fit transitions [] h = tt
+waits-fit transitions (f ∷ fs) h = (h .0 .0, waits-fit transitions fs (h .1))
+
+order-fit : (transitions : ℕ) (fs : List Firing) → Each (FiringFits transitions) fs → Each (λ t. t < transitions) (orderOf fs)
+unfolding orderOf
+order-fit transitions [] h = tt
+order-fit transitions (f ∷ fs) h = (h .0 .1, order-fit transitions fs (h .1))
+
+zip-fit : (transitions : ℕ) (ws order : List ℕ) → Waits ws → Each (λ t. t < transitions) order → Each (FiringFits transitions) (zipFirings ws order)
+unfolding zipFirings
+zip-fit transitions [] order h o = tt
+zip-fit transitions (w ∷ ws) [] h o = tt
+zip-fit transitions (w ∷ ws) (t ∷ order) h o = ((h .0, o .0), zip-fit transitions ws order (h .1) (o .1))
+
+-- rounded down, no wait grows
+rounded-fit : (D : ℕ) → 0 < D → (s : ℕ) (ws : List ℕ) → Waits ws → Waits (roundedFrom D s ws)
+unfolding roundedFrom
+rounded-fit D d s [] h = tt
+rounded-fit D d s (w ∷ ws) h = (omega (arith, div-sum-le D d s w, h .0), rounded-fit D d (s + w) ws (h .1))
+
+-- the card of the rounded run passes where the run's does
+pub rounded-checked : (transitions : ℕ) (r : Run) → runCard transitions .check r 1 ≡ Passed → runCard transitions .check (roundedRun r) 1 ≡ Passed
+unfolding roundedRun roundedWaits firingsOf
+rounded-checked transitions r e =
+    let f = run-fits transitions r .0 e in
+    let D = r .denominator in
+    let fs = firingsOf r in
+    let d : 0 < D = f .some-parts in
+    run-fits transitions (roundedRun r) .1 (record {
+      some-parts = omega arith;
+      few-parts = omega arith;
+      few = f .few;
+      each =
+          rw (rounded-firings r)
+          (zip-fit transitions (roundedFrom D 0 (waitsOf fs)) (orderOf fs) (rounded-fit D d 0 (waitsOf fs) (waits-fit transitions fs (f .each)))
+          (order-fit transitions fs (f .each)));
+      rest = omega (arith, div-sum-le D d (lastInstant r) (r .rest), f .rest);
+    })
+
+-- the card of a timetable passes where that of its order does and no wait is too long
+pub timetable-checked : (transitions : ℕ) (o : Order) (memory : Memory) (waits : List ℕ) → orderCard transitions .check o 1 ≡ Passed
+    → length waits ≡ o .count → ((i : ℕ) → i < length waits → getD waits i 0 ≤ 10000000)
+    → runCard transitions .check (timetableRun memory (firstOf (o .count) 0 (o .fires)) waits) 1 ≡ Passed
+unfolding timetableRun firingsOf
+timetable-checked transitions o memory waits e size h =
+    let order = firstOf (o .count) 0 (o .fires) in
+    let f = order-fits transitions o e in
+    let n : length order ≡ o .count = length-first (o .count) 0 (o .fires) in
+    run-fits transitions (timetableRun memory order waits) .1 (record {
+      some-parts = omega arith;
+      few-parts = omega arith;
+      few = omega (arith, f .0, n);
+      each = rw (timetable-firings memory order waits (size ∙ sym n)) (zip-fit transitions waits order (each-of (λ w. w ≤ 10000000) 0 waits h) (f .1));
+      rest = omega arith;
+    })
+
+-- no wait of a timetable is too long where no lower bound is over 1,000 ticks
+pub scheduled-short : (net : Net) (restarts : Restart) (order ws : List ℕ) → schedule net restarts order ≡ timed ws
+    → ((t : ℕ) → t < net .transitions → transitionAt net t .earliest ≤ 1000) → length order ≤ 64 → (i : ℕ) → i < length ws → getD ws i 0 ≤ 10000000
+scheduled-short net restarts order ws e h few i l =
+    omega (arith, wait-le ws i, scheduled-early net restarts order ws e 1000 h (suc i), scheduled-timing net restarts order ws e .complete)
+
+-- ---- "Each clock and each instant moves by less than one tick": in parts, of which a tick has D
+instants-up : (ws : List ℕ) (o i : ℕ) → o ≤ i → instants ws o ≤ instants ws i
+unfolding instants
+instants-up [] o i h = omega arith
+instants-up (w ∷ ws) zero i h = omega arith
+instants-up (w ∷ ws) (suc o) zero h = absurd (not-suc-le-zero h)
+instants-up (w ∷ ws) (suc o) (suc i) h = omega (arith, instants-up ws o i (le-of-suc-le-suc h))
+
+module _ (D : ℕ) (d : 0 < D) (waits : List ℕ) where
+  pub instants-near : (i : ℕ) → (D * instants (roundedWaits D waits) i ≤ instants waits i) × (instants waits i < D * instants (roundedWaits D waits) i + D)
+  instants-near i = rw (rounded-instants D d waits i) (whole-near D d (instants waits i))
+
+  -- the clock of firing i, counted from the instant of firing o
+  pub clocks-near : (o i : ℕ) → o ≤ i
+      → (D * (instants (roundedWaits D waits) i - instants (roundedWaits D waits) o) < instants waits i - instants waits o + D)
+      × (instants waits i - instants waits o < D * (instants (roundedWaits D waits) i - instants (roundedWaits D waits) o) + D)
+  clocks-near o i h = rw (rounded-instants D d waits i, rounded-instants D d waits o) (difference-near D d (instants waits o) (instants waits i) (instants-up waits o i h))

@@ -1,0 +1,222 @@
+-- The loop keeps what the tokens say and the windows passed (`Collecting`); the first refusal answers for all, and so does the end.
+use Prim.Native.Nat.{_-_}
+use native.Mathlib.Omega.{arith}
+use mathlib.Core.Path.{_≡_, sym, _∙_}
+use lib.ListN.{length}
+use borrow.Author.Needs.{needs}
+use Rattle.timing.proofs.CollectLoop.{Collecting, collecting-start, collecting-done, collecting-unlisted, collecting-refused, collecting-more, allowed-tokens}
+use Rattle.timing.proofs.collect.Statement.{statement}
+use Rattle.timing.proofs.collect.Tie as tie
+
+abbrev Inv-loop : tie.InvT-loop
+Inv-loop net order places transitions count memory origin₀ low₀ closed₀ high₀ take give st₀ i₀ origin low closed high st i =
+    Collecting net order origin low closed high st i
+
+abbrev μ-loop : tie.MeasureT-loop
+μ-loop net order places transitions count memory origin₀ low₀ closed₀ high₀ take give st₀ i₀ origin low closed high st i = count - i
+
+rows-long : (w : tie.After-rows-of Inv-loop μ-loop) → (length (w .rows-of .result .take) ≡ 512) × (length (w .rows-of .result .give) ≡ 512)
+rows-long w = search needs
+
+rows-of-requires : tie.Need-rows-of-requires Inv-loop μ-loop
+rows-of-requires c κs = search needs
+
+start-requires : tie.Need-start-requires Inv-loop μ-loop
+start-requires c κs = search needs
+
+loop-holds : tie.Need-loop-holds Inv-loop μ-loop
+loop-holds c =
+    let a = c .before .before .before .before .before .before .args in
+    let e = c .start .ensures in
+    collecting-start (a .t1) (a .t2) (c .start .result) (e .0) (e .1) (e .2)
+
+mul-index : tie.Need-mul-index Inv-loop μ-loop
+mul-index c = search needs
+
+element-copy-out-index : tie.Need-element-copy-out-index Inv-loop μ-loop
+element-copy-out-index c = search needs
+
+index-requires : tie.Need-index-requires Inv-loop μ-loop
+index-requires c κs = search needs
+
+add-t33 : tie.Need-add-t33 Inv-loop μ-loop
+add-t33 c = search needs
+
+returns : tie.Need-returns Inv-loop μ-loop
+returns c =
+    let x = c .before in
+    let l = x .before .before in
+    let b = l .before in
+    let a = b .before .before .before .before .before .before .before .args in
+    let v = b .loop in
+    collecting-unlisted (a .t1) (a .t2) (v .origin) (v .low) (v .closed) (v .high) (v .st) (v .i) (v .inv) (l .loop-test .taken) (x .index .result) (x .index .ensures)
+    (c .if1 .taken)
+
+slice-aggregate-judge-tokens : tie.Need-slice-aggregate-judge-tokens Inv-loop μ-loop
+slice-aggregate-judge-tokens c = search needs
+
+slice-aggregate-judge-tokens-2 : tie.Need-slice-aggregate-judge-tokens-2 Inv-loop μ-loop
+slice-aggregate-judge-tokens-2 c = search needs
+
+add-judge-tokens : tie.Need-add-judge-tokens Inv-loop μ-loop
+add-judge-tokens c = search needs
+
+judge-tokens-requires : tie.Need-judge-tokens-requires Inv-loop μ-loop
+judge-tokens-requires c κs = search needs
+
+enum-told : tie.Need-enum-told Inv-loop μ-loop
+enum-told c = search needs
+
+enum-told-2 : tie.Need-enum-told-2 Inv-loop μ-loop
+enum-told-2 c = search needs
+
+returns-2 : tie.Need-returns-2 Inv-loop μ-loop
+returns-2 c =
+    let j = c .before .before in
+    let e = j .before .before .before .before in
+    let x = e .before in
+    let l = x .before .before in
+    let b = l .before in
+    let w = b .before .before .before .before in
+    let s = w .before .before .before in
+    let v = b .loop in
+    collecting-refused (s .args .t1) (s .args .t2) (v .origin) (v .low) (v .closed) (v .high) (v .st) (v .i) (v .inv) (l .loop-test .taken) (x .index .result)
+    (x .index .ensures) (w .rows-of .result) (w .rows-of .ensures) (s .pre .0) (e .if1 .left) (j .judge-tokens .result) (j .judge-tokens .ensures) _ (c .enum-told2 .given .1)
+
+mul-tr : tie.Need-mul-tr Inv-loop μ-loop
+mul-tr c = search needs
+
+element-copy-out-tr : tie.Need-element-copy-out-tr Inv-loop μ-loop
+element-copy-out-tr c = search needs
+
+bound-of-requires : tie.Need-bound-of-requires Inv-loop μ-loop
+bound-of-requires c κs = search needs
+
+mul-origin : tie.Need-mul-origin Inv-loop μ-loop
+mul-origin c = search needs
+
+element-copy-out-origin : tie.Need-element-copy-out-origin Inv-loop μ-loop
+element-copy-out-origin c = search needs
+
+mul-origin-2 : tie.Need-mul-origin-2 Inv-loop μ-loop
+mul-origin-2 c = search needs
+
+array-write-origin : tie.Need-array-write-origin Inv-loop μ-loop
+array-write-origin c = search needs
+
+cast-low : tie.Need-cast-low Inv-loop μ-loop
+cast-low c = search needs
+
+mul-low : tie.Need-mul-low Inv-loop μ-loop
+mul-low c = search needs
+
+array-write-low : tie.Need-array-write-low Inv-loop μ-loop
+array-write-low c = search needs
+
+array-write-closed : tie.Need-array-write-closed Inv-loop μ-loop
+array-write-closed c = search needs
+
+mul-high : tie.Need-mul-high Inv-loop μ-loop
+mul-high c = search needs
+
+array-write-high : tie.Need-array-write-high Inv-loop μ-loop
+array-write-high c = search needs
+
+add-later : tie.Need-add-later Inv-loop μ-loop
+add-later c = search needs
+
+slice-aggregate-fire : tie.Need-slice-aggregate-fire Inv-loop μ-loop
+slice-aggregate-fire c =
+    let j = c .before .before .before .before .before .before .before in
+    let b = j .before .before .before .before .before .before .before .before in
+    sym (rows-long (b .before .before .before .before) .0)
+
+slice-aggregate-fire-2 : tie.Need-slice-aggregate-fire-2 Inv-loop μ-loop
+slice-aggregate-fire-2 c =
+    let j = c .before .before .before .before .before .before .before .before in
+    let b = j .before .before .before .before .before .before .before .before in
+    sym (rows-long (b .before .before .before .before) .1)
+
+fire-requires : tie.Need-fire-requires Inv-loop μ-loop
+fire-requires c κs =
+    let p = c .before .before .before .before .before .before in
+    let j = p .before .before in
+    let e = j .before .before .before .before in
+    let b = e .before .before .before .before in
+    let w = b .before .before .before .before in
+    let s = w .before .before .before in (
+      (s .pre .0, s .pre .1, omega (arith, e .if1 .left, s .pre), rows-long w .0, rows-long w .1),
+      allowed-tokens _ _ _ _ _ _ (sym (j .judge-tokens .ensures) ∙ p .enum-told .given .1),
+    )
+
+add-i : tie.Need-add-i Inv-loop μ-loop
+add-i c = search needs
+
+loop-less : tie.Need-loop-less Inv-loop μ-loop
+loop-less c = search needs
+
+loop-again : tie.Need-loop-again Inv-loop μ-loop
+loop-again c =
+    let n = c .before .before .before .before .before in
+    let p = n .before .before in
+    let j = p .before .before in
+    let e = j .before .before .before .before in
+    let x = e .before in
+    let l = x .before .before in
+    let b = l .before in
+    let w = b .before .before .before .before in
+    let s = w .before .before .before in
+    let v = b .loop in
+    collecting-more (s .args .t1) (s .args .t2) (v .origin) (v .low) (v .closed) (v .high) (v .st) (v .i) (v .inv) (l .loop-test .taken) (x .index .result)
+    (x .index .ensures) (w .rows-of .result) (w .rows-of .ensures) (s .pre .0) (e .if1 .left) (j .judge-tokens .result) (j .judge-tokens .ensures) (s .pre .1) _
+    (n .bound-of .result) (n .bound-of .ensures) (p .enum-told .given .1) (s .pre .2) (c .fire .result) (c .fire .ensures)
+
+returns-3 : tie.Need-returns-3 Inv-loop μ-loop
+returns-3 c =
+    let b = c .before in
+    let a = b .before .before .before .before .before .before .before .args in
+    let v = b .loop in
+    collecting-done (a .t1) (a .t2) (v .origin) (v .low) (v .closed) (v .high) (v .st) (v .i) (v .inv) (c .loop-test .left)
+
+pub collect-spec : {M : Type 1} → statement M
+collect-spec =
+    tie.close
+    (tie.spec
+    Inv-loop
+    μ-loop
+    rows-of-requires
+    start-requires
+    loop-holds
+    mul-index
+    element-copy-out-index
+    index-requires
+    add-t33
+    returns
+    slice-aggregate-judge-tokens
+    slice-aggregate-judge-tokens-2
+    add-judge-tokens
+    judge-tokens-requires
+    enum-told
+    enum-told-2
+    returns-2
+    mul-tr
+    element-copy-out-tr
+    bound-of-requires
+    mul-origin
+    element-copy-out-origin
+    mul-origin-2
+    array-write-origin
+    cast-low
+    mul-low
+    array-write-low
+    array-write-closed
+    mul-high
+    array-write-high
+    add-later
+    slice-aggregate-fire
+    slice-aggregate-fire-2
+    fire-requires
+    add-i
+    loop-less
+    loop-again
+    returns-3)

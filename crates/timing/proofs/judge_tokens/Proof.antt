@@ -1,0 +1,65 @@
+-- The tests go in the order of the definition, and each answer is that of the first that fails.
+use native.Mathlib.Omega.{arith}
+use mathlib.Core.Path.{_≡_, refl, sym, _∙_}
+use lib.ListN.{length}
+use borrow.Author.Needs.{needs}
+use Rattle.timing.specs.Collect.{tokensIn}
+use Rattle.timing.proofs.judge_tokens.Statement.{statement}
+use Rattle.timing.proofs.judge_tokens.Tie as tie
+
+marking-long : (s : tie.Start) → length (s .args .t3) ≡ 16
+marking-long s = search needs
+
+mul-enough : tie.Need-mul-enough
+mul-enough c = search needs
+
+slice-aggregate-enough : tie.Need-slice-aggregate-enough
+slice-aggregate-enough c = search needs
+
+enough-requires : tie.Need-enough-requires
+enough-requires c κs = search needs
+
+mul-within-limit : tie.Need-mul-within-limit
+mul-within-limit c = search needs
+
+slice-aggregate-within-limit : tie.Need-slice-aggregate-within-limit
+slice-aggregate-within-limit c = search needs
+
+within-limit-requires : tie.Need-within-limit-requires
+within-limit-requires c κs =
+    let t = c .before in
+    let s = t .before .before .before .before .before in
+    let long : length (s .args .t3) ≡ 16 = marking-long s in
+    (omega (arith, s .pre), omega (arith, s .pre), omega (arith, s .pre), sym (t .before .enough .ensures) ∙ t .if1 .taken)
+
+returns : tie.Need-returns
+unfolding tokensIn
+returns c =
+    let l = c .before in
+    let e = l .before .before in
+    rw (sym (e .before .enough .ensures) ∙ e .if1 .taken, sym (l .within-limit .ensures) ∙ c .if2 .taken) refl
+
+returns-2 : tie.Need-returns-2
+unfolding tokensIn
+returns-2 c =
+    let l = c .before in
+    let e = l .before .before in
+    rw (sym (e .before .enough .ensures) ∙ e .if1 .taken, sym (l .within-limit .ensures) ∙ c .if2 .left) refl
+
+returns-3 : tie.Need-returns-3
+unfolding tokensIn
+returns-3 c = rw (sym (c .before .enough .ensures) ∙ c .if1 .left) refl
+
+pub judge-tokens-spec : {M : Type 1} → statement M
+judge-tokens-spec =
+    tie.close
+    (tie.spec
+    mul-enough
+    slice-aggregate-enough
+    enough-requires
+    mul-within-limit
+    slice-aggregate-within-limit
+    within-limit-requires
+    returns
+    returns-2
+    returns-3)
