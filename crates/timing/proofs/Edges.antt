@@ -1,5 +1,5 @@
 -- The constraints of the windows say what `Feasible` says: each firing's order, lower and upper bound is one constraint.
-use Prim.Native.Nat.{ℕ, zero, suc, _≤_, _<_}
+use Prim.Native.Nat.{ℕ, zero, suc, _+_, _*_, _≤_, _<_}
 use mathlib.Core.Path.{_≡_, subst⁻¹}
 use mathlib.Core.List.{List, []}
 use mathlib.Core.Logic.{⊎-elim}
@@ -8,17 +8,23 @@ use Rattle.laws.specs.Each.{Each}
 use Rattle.laws.specs.Sum.{le-or-lt}
 use Rattle.timing.specs.Timing.{Upper, atMost, below, unbounded, Win, Within, Meets, Wellformed}
 use Rattle.timing.specs.Solve.{Edge, upperEdge, windowEdges, edges}
-use Rattle.timing.proofs.Pass.{Sat, Fits}
+use Rattle.timing.proofs.Pass.{Serves, Sat, Fits}
+
+-- what the firing `suc i` asks of the instants S, T give it: where T is S, the firing meets its window
+pub record Served (D : ℕ) (S T : ℕ → ℕ) (i : ℕ) (w : Win) : Type 0 where
+  pub ordered : S i ≤ T (suc i)
+  pub early : S (w .origin) + D * w .low ≤ T (suc i)
+  pub late : Within D (w .high) (T (w .origin)) (S (suc i))
 
 upper-fits : (N D : ℕ) (u : Upper) (o k : ℕ) (es : List Edge) → o ≤ N → k ≤ N → Each (Fits N) es → Each (Fits N) (upperEdge D u o k es)
 upper-fits N D (atMost b) o k es h l a = (record { from-le = l; to-le = h }, a)
 upper-fits N D (below b) o k es h l a = (record { from-le = l; to-le = h }, a)
 upper-fits N D unbounded o k es h l a = a
 
-upper-sat : (D : ℕ) (S : ℕ → ℕ) (u : Upper) (o k : ℕ) (es : List Edge) → Within D u (S o) (S k) → Sat es S → Sat (upperEdge D u o k es) S
-upper-sat D S (atMost b) o k es h a = (omega arith, a)
-upper-sat D S (below b) o k es h a = (omega arith, a)
-upper-sat D S unbounded o k es h a = a
+upper-serves : (D : ℕ) (S T : ℕ → ℕ) (u : Upper) (o k : ℕ) (es : List Edge) → Within D u (T o) (S k) → Each (Serves S T) es → Each (Serves S T) (upperEdge D u o k es)
+upper-serves D S T (atMost b) o k es h a = (omega arith, a)
+upper-serves D S T (below b) o k es h a = (omega arith, a)
+upper-serves D S T unbounded o k es h a = a
 
 upper-back : (D : ℕ) (S : ℕ → ℕ) (u : Upper) (o k : ℕ) (es : List Edge) → Sat (upperEdge D u o k es) S → Within D u (S o) (S k) × Sat es S
 upper-back D S (atMost b) o k es a = (omega arith, a .1)
@@ -36,15 +42,19 @@ module _ (D : ℕ) (W : ℕ → Win) where
   pub edges-fit : (n : ℕ) → Wellformed W n → Each (Fits n) (edges D W n [])
   edges-fit n wf = fits-in n n (omega arith) wf [] tt
 
-  module _ (S : ℕ → ℕ) where
-    sat-in : (n : ℕ) → ((i : ℕ) → i < n → Meets D S i (W i)) → (es : List Edge) → Sat es S → Sat (edges D W n es) S
-    sat-in zero m es a = a
-    sat-in (suc i) m es a =
+  module _ (S T : ℕ → ℕ) where
+    serves-in : (n : ℕ) → ((i : ℕ) → i < n → Served D S T i (W i)) → (es : List Edge) → Each (Serves S T) es → Each (Serves S T) (edges D W n es)
+    serves-in zero m es a = a
+    serves-in (suc i) m es a =
         let w = m i (omega arith) in
-        sat-in i (λ k b. m k (omega arith)) (windowEdges D i (W i) es) (omega arith, (omega arith, upper-sat D S (W i .high) (W i .origin) (suc i) es (w .late) a))
+        serves-in i (λ k b. m k (omega arith)) (windowEdges D i (W i) es) (omega arith, (omega arith, upper-serves D S T (W i .high) (W i .origin) (suc i) es (w .late) a))
 
+    pub serves-of : (n : ℕ) → ((i : ℕ) → i < n → Served D S T i (W i)) → Each (Serves S T) (edges D W n [])
+    serves-of n m = serves-in n m [] tt
+
+  module _ (S : ℕ → ℕ) where
     pub sat-of : (n : ℕ) → ((i : ℕ) → i < n → Meets D S i (W i)) → Sat (edges D W n []) S
-    sat-of n m = sat-in n m [] tt
+    sat-of n m = serves-of S S n (λ i l. let w = m i l in record { ordered = w .ordered; early = w .early; late = w .late })
 
     back-in : (n : ℕ) (es : List Edge) → Sat (edges D W n es) S → ((i : ℕ) → i < n → Meets D S i (W i)) × Sat es S
     back-in zero es a = (λ i l. absurd (omega arith), a)

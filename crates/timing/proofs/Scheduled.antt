@@ -32,7 +32,7 @@ not-timed : {r : Refusal} {ws : List ℕ} → unschedulable r ≡ timed ws → �
 not-timed e = let z : _≡_ {A = ℕ} 0 1 = cc in omega arith
 
 -- instants that meet the first n windows, made least
-possible-least : (W : ℕ → Win) (n : ℕ) → Wellformed W n → Possible 1 W n → (x : List ℕ) × LeastInstants 1 W n x
+pub possible-least : (W : ℕ → Win) (n : ℕ) → Wellformed W n → Possible 1 W n → (x : List ℕ) × LeastInstants 1 W n x
 possible-least W n wf p = go (solve 1 W n) (solve-right 1 W n wf)
   where
     go : (a : Option (List ℕ)) → Answers 1 W n a → (x : List ℕ) × LeastInstants 1 W n x

@@ -14,7 +14,7 @@ use Rattle.laws.specs.Sum.{le-or-lt}
 use Rattle.timing.specs.Timing.{Win, Feasible, Wellformed, LowsLe, capped}
 use Rattle.timing.specs.Solve.{edges, instantAt, climb, solve, Verdict, metBy, failsAt, verdictAt, nextPrefix, solvePrefixes}
 use Rattle.timing.specs.Claims.{LeastInstants, Answers, FirstFail, Judges}
-use Rattle.timing.proofs.Feasible.{restrict}
+use Rattle.timing.proofs.Feasible.{restrict, feasible-windows}
 use Rattle.timing.proofs.Cap.{cap, capped-le}
 use Rattle.timing.proofs.Answer.{Right, climb-right}
 use Rattle.timing.proofs.Climb.{Best, Start, near-start}
@@ -122,3 +122,20 @@ module _ (D : ℕ) (W : ℕ → Win) where
   judge-unique n (metBy x) (failsAt k) p q = absurd (q .fails-at (instantAt x) (restrict k (q .reached) (p .feasible)))
   judge-unique n (failsAt k) (metBy y) p q = absurd (p .fails-at (instantAt y) (restrict k (p .reached) (q .feasible)))
   judge-unique n (failsAt k) (failsAt j) p q = ap failsAt (le-antisymm (first-le n k j p q) (first-le n j k q p))
+
+-- ---- the same windows
+
+module _ (D : ℕ) {W V′ : ℕ → Win} where
+  least-windows : {n : ℕ} {x : List ℕ} → ((i : ℕ) → i < n → W i ≡ V′ i) → LeastInstants D W n x → LeastInstants D V′ n x
+  least-windows {n} e p =
+      record { size = p .size; feasible = feasible-windows D n e (p .feasible); least = λ S f. p .least S (feasible-windows D n (λ i l. sym (e i l)) f) }
+
+  -- a verdict depends on the first n windows only
+  pub judges-windows : (n : ℕ) → ((i : ℕ) → i < n → W i ≡ V′ i) → (v : Verdict) → Judges D W n v → Judges D V′ n v
+  judges-windows n e (metBy x) p = least-windows e p
+  judges-windows n e (failsAt k) p =
+      record {
+        reached = p .reached;
+        fails-at = λ S f. p .fails-at S (feasible-windows D k (λ i l. sym (e i (le-trans l (p .reached)))) f);
+        met = λ j l. let (x, t) = p .met j l in (x, least-windows (λ i h. e i (omega (arith, p .reached))) t);
+      }

@@ -1,0 +1,5 @@
+pub mod Raising
+pub mod Sweeping
+pub mod Level
+pub mod Rounds
+pub mod Prefixes

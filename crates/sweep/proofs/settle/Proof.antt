@@ -1,0 +1,85 @@
+-- The invariant is `Settling`: each round makes one more instant final. The tests on the indices that rose say what a round came to.
+use Prim.Native.Nat.{_-_}
+use native.Mathlib.Numerals.{add-one}
+use native.Mathlib.Omega.{arith}
+use mathlib.Core.Bool.{false}
+use lib.ListN.{getD}
+use borrow.Author.Needs.{needs}
+use Rattle.sweep.specs.Arrays.{windowsIn}
+use Rattle.sweep.proofs.Raising.{upper-closed}
+use Rattle.sweep.proofs.Rounds.{Settling, back-size, settle-start, settle-none, settle-started, forth-from, forth-follows, forth-small, settle-done, settle-above, settle-more, settle-spent}
+use Rattle.sweep.proofs.settle.Statement.{statement}
+use Rattle.sweep.proofs.settle.Tie as tie
+
+abbrev Inv-loop : tie.InvT-loop
+Inv-loop x₀ origin low closed high k top₀ round₀ x top round = Settling (windowsIn origin low closed high) k x₀ x top round
+
+abbrev μ-loop : tie.MeasureT-loop
+μ-loop x₀ origin low closed high k top₀ round₀ x top round = 65 - round
+
+loop-holds : tie.Need-loop-holds Inv-loop μ-loop
+loop-holds c =
+    let start = c .before .before .before .before in
+    let a = start .args in
+    let p = start .pre .0 in
+    settle-start (p .few) (p .earlier) (λ i l. upper-closed (getD (a .closed .now) i false) (getD (a .high .now) i 0)) (start .pre .1)
+
+backward-requires : tie.Need-backward-requires Inv-loop μ-loop
+backward-requires c κs =
+    let p = c .before .before .before .before .before .before .before .pre .0 in
+    let s = c .before .before .loop .inv in
+    let l = s .within in
+    ((s .size, omega (arith, p .few), omega (arith, p .origins), omega (arith, p .marks), omega (arith, p .highs)), λ j h. p .earlier j (omega arith))
+
+returns : tie.Need-returns Inv-loop μ-loop
+returns c = settle-none (c .before .before .before .before .loop .inv) (c .before .backward .ensures) (c .if1 .taken)
+
+returns-2 : tie.Need-returns-2 Inv-loop μ-loop
+returns-2 c = settle-started (c .before .before .before .before .before .loop .inv) (c .before .before .backward .ensures) (c .if2 .taken)
+
+forward-requires : tie.Need-forward-requires Inv-loop μ-loop
+forward-requires c κs =
+    let p = c .before .before .before .before .before .before .before .before .before .before .before .pre .0 in
+    let s = c .before .before .before .before .before .before .loop .inv in
+    let b = c .before .before .before .backward .ensures in
+    ((back-size s b, p .few, p .origins, p .lows, forth-from s b), ((p .earlier, p .small), (forth-follows s b, forth-small s b)))
+
+returns-3 : tie.Need-returns-3 Inv-loop μ-loop
+returns-3 c = settle-done (c .before .before .before .before .before .before .before .before .loop .inv) (c .before .before .before .before .before .backward .ensures) (c .before .forward .ensures) (c .before .before .before .if2 .left) (c .if3 .taken)
+
+returns-4 : tie.Need-returns-4 Inv-loop μ-loop
+returns-4 c = settle-above (c .before .before .before .before .before .before .before .before .before .loop .inv) (c .before .before .before .before .before .before .backward .ensures) (c .before .before .forward .ensures) (c .if4 .taken)
+
+add-round : tie.Need-add-round Inv-loop μ-loop
+add-round c = search needs
+
+loop-less : tie.Need-loop-less Inv-loop μ-loop
+loop-less c = omega arith
+
+loop-again : tie.Need-loop-again Inv-loop μ-loop
+loop-again c =
+    let round = c .before .before .before .before .before .before .before .before .before .loop .round in
+    rw (add-one round)
+    (settle-more (c .before .before .before .before .before .before .before .before .before .loop .inv) (c .before .before .before .before .before .before .backward .ensures) (c .before .before .forward .ensures) (c .before .before .before .before .before .if1 .left) (c .before .before .before .before .if2 .left) (c .before .if3 .left)
+    (c .if4 .left))
+
+returns-5 : tie.Need-returns-5 Inv-loop μ-loop
+returns-5 c = settle-spent (c .before .loop .inv) (c .loop-test .left)
+
+pub settle-spec : {M : Type 1} → statement M
+settle-spec =
+    tie.close
+    (tie.spec
+    Inv-loop
+    μ-loop
+    loop-holds
+    backward-requires
+    returns
+    returns-2
+    forward-requires
+    returns-3
+    returns-4
+    add-round
+    loop-less
+    loop-again
+    returns-5)
