@@ -20,7 +20,8 @@ use Rattle.timing.proofs.Pass.{Under}
 use Rattle.timing.proofs.Feasible.{restrict, feasible-same}
 use Rattle.timing.proofs.Cap.{cap, capped-le}
 use Rattle.timing.proofs.Scheduled.{possible-least}
-use Rattle.sweep.specs.Arrays.{entry, uppers, windowsIn, Listed, verdictOf}
+use Rattle.sweep.specs.Arrays.{entry, uppers, Listed, verdictOf}
+use Rattle.timing.specs.Collect.{windowIn}
 use Rattle.sweep.specs.Sweeps.{asked, originOf, lowOf, highOf, Follows, Reaches, Solved, Entered, Unmet}
 use Rattle.sweep.proofs.Raising.{each-index}
 use Rattle.sweep.proofs.Rounds.{meets-parts, meets-follows, meets-reaches}
@@ -139,9 +140,9 @@ listed-first p l =
     }
 
 module _ {origin low : List ℕ} {closed : List Bool} {high : List ℕ} {i : ℕ} {x : List ℕ} (p : Listed origin low closed high (i + 1))
-    (s : Solved (windowsIn origin low closed high) i x) where
+    (s : Solved (windowIn origin low closed high) i x) where
   abbrev W : ℕ → Win
-  W = windowsIn origin low closed high
+  W = windowIn origin low closed high
 
   wf : Wellformed W (suc i)
   wf j l = p .earlier j (omega arith)

@@ -12,7 +12,7 @@ use native.Mathlib.Omega.{arith}
 use borrow.Author.Tests.{not-true, not-false}
 use Rattle.timing.specs.Timing.{Upper, atMost, below, unbounded, Within, Closed}
 use Rattle.timing.specs.Solve.{instantAt}
-use Rattle.sweep.specs.Arrays.{upperIn}
+use Rattle.timing.specs.Collect.{upperIn}
 use Rattle.sweep.specs.Sweeps.{asked, Raised}
 
 -- what holds of each index but `at`, and of `at`, holds of each

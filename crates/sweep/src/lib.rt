@@ -6,7 +6,8 @@ ghost use Prim.Native.Nat.{ℕ, _+_, _*_, _<_, _≤_, _^_, min, max};
 ghost use lib.ListN.{length};
 ghost use Rattle.timing.specs.Solve.{instantAt};
 ghost use Rattle.timing.specs.Claims.{Judges};
-ghost use Rattle.sweep.specs.Arrays.{upperIn, entry, uppers, windowsIn, Listed, verdictOf};
+ghost use Rattle.sweep.specs.Arrays.{entry, uppers, Listed, verdictOf};
+ghost use Rattle.timing.specs.Collect.{upperIn, windowIn};
 ghost use Rattle.sweep.specs.Sweeps.{asked, Follows, Raised, Backward, Forward, Solved, Entered, Unmet};
 
 // The earliest instants: of the first `failed` windows, the last cannot be met with the others; 0 where all are met, and then by these instants.
@@ -119,9 +120,9 @@ fn settle<'a>(
     k: usize,
 ) -> bool
     requires { ⌜ Listed (now origin) (now low) (now closed) (now high) k ⌝ }
-    requires { ⌜ Entered (windowsIn (now origin) (now low) (now closed) (now high)) k (now x) ⌝ }
-    ensures { λ r. ⌜ cond r (Solved (windowsIn (now (origin .entry)) (now (low .entry)) (now (closed .entry)) (now (high .entry))) k (now (x .exit)))
-        (Unmet (windowsIn (now (origin .entry)) (now (low .entry)) (now (closed .entry)) (now (high .entry))) k) ⌝ }
+    requires { ⌜ Entered (windowIn (now origin) (now low) (now closed) (now high)) k (now x) ⌝ }
+    ensures { λ r. ⌜ cond r (Solved (windowIn (now (origin .entry)) (now (low .entry)) (now (closed .entry)) (now (high .entry))) k (now (x .exit)))
+        (Unmet (windowIn (now (origin .entry)) (now (low .entry)) (now (closed .entry)) (now (high .entry))) k) ⌝ }
 {
     let mut top = k;
     let mut round: usize = 0;
@@ -156,9 +157,9 @@ fn enter<'a>(
     i: usize,
 ) -> bool
     requires { ⌜ Listed (now origin) (now low) (now closed) (now high) (i + 1) ⌝ }
-    requires { ⌜ Solved (windowsIn (now origin) (now low) (now closed) (now high)) i (now x) ⌝ }
-    ensures { λ r. ⌜ cond r (Solved (windowsIn (now (origin .entry)) (now (low .entry)) (now (closed .entry)) (now (high .entry))) (i + 1) (now (x .exit)))
-        (Unmet (windowsIn (now (origin .entry)) (now (low .entry)) (now (closed .entry)) (now (high .entry))) (i + 1)) ⌝ }
+    requires { ⌜ Solved (windowIn (now origin) (now low) (now closed) (now high)) i (now x) ⌝ }
+    ensures { λ r. ⌜ cond r (Solved (windowIn (now (origin .entry)) (now (low .entry)) (now (closed .entry)) (now (high .entry))) (i + 1) (now (x .exit)))
+        (Unmet (windowIn (now (origin .entry)) (now (low .entry)) (now (closed .entry)) (now (high .entry))) (i + 1)) ⌝ }
 {
     let o = origin[i];
     let t = later(x[i], x[o] + low[i]);
@@ -179,7 +180,7 @@ pub fn find_earliest<'a>(
     n: usize,
 ) -> Earliest
     requires { ⌜ Listed (now origin) (now low) (now closed) (now high) n ⌝ }
-    ensures { λ r. ⌜ Judges 1 (windowsIn (now (origin .entry)) (now (low .entry)) (now (closed .entry)) (now (high .entry))) n (verdictOf n r) ⌝ }
+    ensures { λ r. ⌜ Judges 1 (windowIn (now (origin .entry)) (now (low .entry)) (now (closed .entry)) (now (high .entry))) n (verdictOf n r) ⌝ }
 {
     let mut x = [0u64; 65];
     let mut i: usize = 0;

@@ -3,14 +3,14 @@ use Prim.Native.Nat.{_-_, _≤_}
 use native.Mathlib.Omega.{arith}
 use borrow.Author.Tests.{not-true, not-false}
 use borrow.Author.Needs.{needs}
-use Rattle.sweep.specs.Arrays.{windowsIn}
+use Rattle.timing.specs.Collect.{windowIn}
 use Rattle.sweep.specs.Sweeps.{Solved}
 use Rattle.sweep.proofs.Prefixes.{solved-zero, listed-first, judges-fails, judges-met}
 use Rattle.sweep.proofs.find_earliest.Statement.{statement}
 use Rattle.sweep.proofs.find_earliest.Tie as tie
 
 abbrev Inv-loop : tie.InvT-loop
-Inv-loop origin low closed high n x₀ i₀ x i = (i ≤ n) × Solved (windowsIn origin low closed high) i x
+Inv-loop origin low closed high n x₀ i₀ x i = (i ≤ n) × Solved (windowIn origin low closed high) i x
 
 abbrev μ-loop : tie.MeasureT-loop
 μ-loop origin low closed high n x₀ i₀ x i = n - i
@@ -32,7 +32,7 @@ returns c =
     let a = start .args in
     let p = start .pre in
     let l = c .before .before .before .before .loop in
-    judges-fails (windowsIn (a .origin .now) (a .low .now) (a .closed .now) (a .high .now)) (a .n) (p .few) (p .earlier) (l .i) (l .x) (l .inv .1) (c .before .enter .last .0)
+    judges-fails (windowIn (a .origin .now) (a .low .now) (a .closed .now) (a .high .now)) (a .n) (p .few) (p .earlier) (l .i) (l .x) (l .inv .1) (c .before .enter .last .0)
     (c .before .before .before .loop-test .taken) (rw (not-true (c .before .enter .result) (c .if1 .taken)) at (c .before .enter .ensures))
 
 loop-less : tie.Need-loop-less Inv-loop μ-loop
@@ -47,7 +47,7 @@ returns-2 c =
     let a = start .args in
     let p = start .pre in
     let l = c .before .loop in
-    judges-met (windowsIn (a .origin .now) (a .low .now) (a .closed .now) (a .high .now)) (a .n) (p .few) (p .earlier) (l .i) (l .x) (l .inv .1) (c .loop-test .left) (l .inv .0)
+    judges-met (windowIn (a .origin .now) (a .low .now) (a .closed .now) (a .high .now)) (a .n) (p .few) (p .earlier) (l .i) (l .x) (l .inv .1) (c .loop-test .left) (l .inv .0)
 
 pub find-earliest-spec : {M : Type 1} → statement M
 find-earliest-spec =

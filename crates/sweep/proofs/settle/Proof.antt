@@ -5,14 +5,14 @@ use native.Mathlib.Omega.{arith}
 use mathlib.Core.Bool.{false}
 use lib.ListN.{getD}
 use borrow.Author.Needs.{needs}
-use Rattle.sweep.specs.Arrays.{windowsIn}
+use Rattle.timing.specs.Collect.{windowIn}
 use Rattle.sweep.proofs.Raising.{upper-closed}
 use Rattle.sweep.proofs.Rounds.{Settling, back-size, settle-start, settle-none, settle-started, forth-from, forth-follows, forth-small, settle-done, settle-above, settle-more, settle-spent}
 use Rattle.sweep.proofs.settle.Statement.{statement}
 use Rattle.sweep.proofs.settle.Tie as tie
 
 abbrev Inv-loop : tie.InvT-loop
-Inv-loop x₀ origin low closed high k top₀ round₀ x top round = Settling (windowsIn origin low closed high) k x₀ x top round
+Inv-loop x₀ origin low closed high k top₀ round₀ x top round = Settling (windowIn origin low closed high) k x₀ x top round
 
 abbrev μ-loop : tie.MeasureT-loop
 μ-loop x₀ origin low closed high k top₀ round₀ x top round = 65 - round
