@@ -43,6 +43,9 @@ pub struct Moved {
     pub later: [u32; 16],
 }
 
+// The public functions below are for the crates above and no operations: they ask for counts within the arrays, and `fire` for a firing that passed its
+// judgement. Whoever calls them shows it, from a net and a run that passed their checks.
+
 // Whether every place has the tokens that a row asks for; the first place found short settles the matter.
 pub fn enough(take: &[u32], row: usize, marking: &[u32], places: usize) -> bool
     requires { ⌜ (row + places ≤ length (now take)) × (places ≤ length (now marking)) ⌝ }

@@ -499,7 +499,7 @@ fn put_firings(
     to
 }
 
-// The card of a run written to a position; the position behind it.
+// The card of a run written to a position; the position behind it. The caller shows that there is room, by the longest card.
 pub fn put_run(out: &mut [u8], at: usize, run: Run, transitions: usize) -> usize
     requires { ⌜ (run .count ≤ 64) × (at + length (runCard transitions .text run) ≤ length (now out)) ⌝ }
     ensures { λ r. ⌜ Wrote (now (out .entry)) at (runCard transitions .text run) r (now (out .exit)) ⌝ }
@@ -540,7 +540,7 @@ fn put_fires(out: &mut [u8], at: usize, fires: [u32; 64], transitions: usize, co
     to
 }
 
-// The card of an order written to a position; the position behind it.
+// The card of an order written to a position; the position behind it. The caller shows that there is room, by the longest card.
 pub fn put_order(out: &mut [u8], at: usize, order: Order, transitions: usize) -> usize
     requires { ⌜ (order .count ≤ 64) × (at + length (orderCard transitions .text order) ≤ length (now out)) ⌝ }
     ensures { λ r. ⌜ Wrote (now (out .entry)) at (orderCard transitions .text order) r (now (out .exit)) ⌝ }

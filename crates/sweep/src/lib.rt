@@ -172,6 +172,7 @@ fn enter<'a>(
 }
 
 // The earliest instants that meet the first n windows, or the first of these that cannot be met with those before it.
+// It asks that the windows are listed as `Listed` says, which holds of those that `timing::collect` makes.
 pub fn find_earliest<'a>(
     origin: &'a [usize],
     low: &'a [u64],

@@ -30,6 +30,9 @@ pub struct Collected {
     pub high: [u64; 64],
 }
 
+// The public functions below are for the engine and no operations: they ask for counts within the arrays, and rounding for a denominator. The engine shows it
+// by the checks of the values.
+
 // A run with each instant, the end included, rounded down to whole ticks.
 pub fn rounded_run(run: Run) -> Run
     requires { ⌜ (run .count ≤ 64) × (0 < run .denominator) ⌝ }
