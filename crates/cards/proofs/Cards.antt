@@ -1,7 +1,7 @@
 -- Both round trips of run and order cards of a net, from the laws of their forms; and how much of an input a reading looks at.
 use Prim.Native.Nat.{ℕ, _+_, _≤_, _<_}
 use native.Mathlib.Omega.{arith}
-use mathlib.Core.Path.{_≡_}
+use mathlib.Core.Path.{_≡_, ap, _∙_}
 use mathlib.Core.Logic.{_↔_}
 use mathlib.Core.List.{List}
 use lib.ListN.{length, take}
@@ -52,6 +52,11 @@ module _ (net : Net) where
   pub run-passes-exactly : (r : Run) → (runChecked net r ≡ Passed)
       ↔ (readRun net (runCard (net .transitions) .text r) ≡ found (runCard (net .transitions) .clean r) (length (runCard (net .transitions) .text r)))
   run-passes-exactly = card-passes-exactly (netCard .check net 1) (runCard (net .transitions)) card-run-inverse (run-settled (net .transitions))
+
+  -- a run with nothing in the slots past its count is read back as it is
+  pub run-reads-itself : (r : Run) → runChecked net r ≡ Passed → runCard (net .transitions) .clean r ≡ r
+      → readRun net (runCard (net .transitions) .text r) ≡ found r (length (runCard (net .transitions) .text r))
+  run-reads-itself r p clean = run-passes-exactly r .0 p ∙ ap (λ (x : Run). found x (length (runCard (net .transitions) .text r))) clean
 
   pub order-passes-exactly : (o : Order) → (orderChecked net o ≡ Passed)
       ↔ (readOrder net (orderCard (net .transitions) .text o) ≡ found (orderCard (net .transitions) .clean o) (length (orderCard (net .transitions) .text o)))

@@ -1,2 +1,4 @@
 pub mod End
 pub mod Outcome
+pub mod Answers
+pub mod Demands

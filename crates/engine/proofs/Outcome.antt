@@ -26,7 +26,8 @@ use Rattle.firing.proofs.Agree.{play-past}
 use Rattle.firing.proofs.Accept.{start-past}
 use Rattle.cards.specs.Cards.{runChecked}
 use Rattle.cards.proofs.Cards.{run-counts}
-use Rattle.engine.specs.Replay.{endText, ended, replayOf, onceChecked, onceRead}
+use Rattle.engine.specs.Operation.{onceChecked, onceRead}
+use Rattle.engine.specs.Replay.{endText, ended, replayOf}
 use Rattle.engine.proofs.End.{counted, end-fits}
 
 -- a refusal leaves the output as it was

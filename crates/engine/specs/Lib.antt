@@ -1,2 +1,6 @@
+pub mod Claims
 pub mod Keys
+pub mod Operation
 pub mod Replay
+pub mod Round
+pub mod Timetable

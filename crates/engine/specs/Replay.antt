@@ -7,7 +7,6 @@ use Rattle.reply.specs.declared.Checked.{Checked}
 use Rattle.reply.specs.declared.Checked.the-variants.{Passed, Refused}
 use Rattle.reply.specs.Respond.{Outcome, answer, refusal}
 use Rattle.text.specs.Decimal.{field}
-use Rattle.form.specs.Form.{Found, found, refused}
 use Rattle.form.specs.Line.{itemsText}
 use Rattle.net.specs.declared.Net.{Net}
 use Rattle.run.specs.declared.Run.{Run}
@@ -16,6 +15,7 @@ use Rattle.firing.specs.Semantics.{enabled}
 use Rattle.firing.specs.Replay.{ruleOf, clockOf, replay}
 use Rattle.cards.specs.Cards.{runChecked, runCards}
 use Rattle.engine.specs.Keys.{endKey, clockKey, offLine}
+use Rattle.engine.specs.Operation.{onceChecked, onceRead}
 
 -- the line of one clock
 abbrev pub clockText : Net → State → ℕ → List ℕ
@@ -36,16 +36,6 @@ ended net (Refused r) st = refusal r
 
 abbrev pub replayOf : Net → Run → Outcome
 replayOf net r = ended net (replay net (ruleOf net (r .memory)) r .checked) (replay net (ruleOf net (r .memory)) r .state)
-
--- an operation on values: both are checked as their cards would be
-abbrev pub onceChecked : Checked → Outcome → Outcome
-onceChecked Passed o = o
-onceChecked (Refused r) o = refusal r
-
--- an operation on cards: both are read first
-abbrev pub onceRead : {A : Type 0} → Found A → (A → Outcome) → Outcome
-onceRead (found a next) o = o a
-onceRead (refused r) o = refusal r
 
 -- the replay of a run of a net, over values and over cards
 abbrev pub replayValues : Net → Run → Outcome

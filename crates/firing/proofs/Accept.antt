@@ -16,12 +16,14 @@ use Rattle.reply.specs.declared.Refusal.the-variants.{NotEnabled, OutsideInterv
 use Rattle.reply.specs.declared.Checked.{Checked}
 use Rattle.reply.specs.declared.Checked.the-variants.{Passed, Refused}
 use Rattle.net.specs.declared.Net.{Net}
+use Rattle.run.specs.declared.Memory.{Memory}
+use Rattle.run.specs.declared.Memory.the-variants.{Intermediate, Atomic}
 use Rattle.run.specs.declared.Firing.{Firing}
 use Rattle.run.specs.declared.Run.{Run}
 use Rattle.firing.specs.declared.State.{State}
 use Rattle.firing.specs.declared.Played.{Played}
 use Rattle.firing.specs.Semantics.{Restart, Timed, startMarking, enabled, taken, after, intermediate, atomic, Initial, none, one, Allowed}
-use Rattle.firing.specs.Replay.{startState, waited, clockOf, inInterval, bounded, fired, judged, stepOn, play, firingsOf, replay}
+use Rattle.firing.specs.Replay.{ruleOf, startState, waited, clockOf, inInterval, bounded, fired, judged, stepOn, play, firingsOf, replay}
 use Rattle.firing.specs.Claims.{OnTime, Because, FirstRefused}
 use Rattle.firing.proofs.Clocks.{view, Past, past-waited, past-fired, interval-true, taken-enabled}
 use Rattle.firing.proofs.Agree.{passes, view-elapses, view-fires, view-bounded, play-sound, Matches, Restarting, Replayed, play-complete, play-past, matches-waited}
@@ -203,3 +205,7 @@ module _ (net : Net) (D : ℕ) where
       go : (b : Bool) → enabled net (taken net m t) u ≡ b → b ≡ false
       go true p = sym (taken-enabled net m t u p) ∙ n
       go false p = refl
+
+  pub rule-restarting : (memory : Memory) → Restarting net (ruleOf net memory) D
+  rule-restarting Intermediate = intermediate-restarting
+  rule-restarting Atomic = atomic-restarting

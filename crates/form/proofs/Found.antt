@@ -1,12 +1,14 @@
 -- What a reading that found something, or a check that passed, says of its parts: a refusal of any part would be the refusal of the whole.
-use Prim.Native.Nat.{ℕ}
+use Prim.Native.Nat.{ℕ, _+_}
 use native.Mathlib.Omega.{arith}
 use mathlib.Core.Path.{_≡_, refl}
 use mathlib.Core.Bool.{Bool, true, false, cond}
+use mathlib.Core.List.{List, [], _∷_}
+use Rattle.laws.specs.Each.{Each}
 use Rattle.reply.specs.declared.Refusal.{Refusal}
 use Rattle.reply.specs.declared.Checked.{Checked}
 use Rattle.reply.specs.declared.Checked.the-variants.{Passed, Refused}
-use Rattle.form.specs.Form.{Found, found, refused, andThen, judged, also}
+use Rattle.form.specs.Form.{Found, found, refused, andThen, judged, also, Form, checks}
 
 -- the values that a reading in two steps went through
 pub record Went {A B : Type 0} (m : Found A) (more : A → ℕ → Found B) (b : B) (end : ℕ) : Type 0 where
@@ -51,6 +53,16 @@ also-first (Refused r) c′ e = e
 pub also-second : (c c′ : Checked) → also c c′ ≡ Passed → c′ ≡ Passed
 also-second Passed c′ e = e
 also-second (Refused r) c′ e = cc
+
+-- a fact that each part has which passes
+pub checks-each : {A : Type 0} (f : Form A) (P : A → Type 0) → ((a : A) (line : ℕ) → f .check a line ≡ Passed → P a)
+    → (l : List A) (line : ℕ) → checks f l line ≡ Passed → Each P l
+unfolding checks
+checks-each f P h [] line e = tt
+checks-each f P h (a ∷ l) line e =
+    let here = f .check a line in
+    let rest = checks f l (line + f .lines a) in
+    (h a line (also-first here rest e), checks-each f P h l (line + f .lines a) (also-second here rest e))
 
 pub judged-passed : {A : Type 0} (c : Checked) (a : A) (next : ℕ) {b : A} {end : ℕ} → judged c a next ≡ found b end → c ≡ Passed
 judged-passed Passed a next e = refl

@@ -1,14 +1,16 @@
 -- The net card is a format: each of its lines is one, and the counts of the first two lines bound how many follow. A number never begins
 -- like the word for no upper bound, since the word's first byte is no digit.
-use Prim.Native.Nat.{ℕ, _+_, _≤_}
+use Prim.Native.Nat.{ℕ, _+_, _≤_, _<_}
 use native.Mathlib.Omega.{arith}
 use mathlib.Core.Path.{_≡_, refl, ap, subst, _∙_}
 use mathlib.Core.Bool.{Bool, true, false, cond}
 use mathlib.Core.Logic.{_↔_}
 use mathlib.Core.List.{List, _++_}
-use lib.ListN.{length, take, drop}
+use lib.ListN.{length, getD, take, drop}
 use lib.Seq.{take-at}
 use lib.Dec.{lit<, ltb}
+use Rattle.laws.specs.EachAt.{each-at}
+use Rattle.laws.specs.Slots.{firstOf, length-first, getD-first}
 use Rattle.reply.specs.declared.Refusal.the-variants.{LatestBelowEarliest}
 use Rattle.reply.specs.declared.Checked.{Checked}
 use Rattle.reply.specs.declared.Checked.the-variants.{Passed, Refused}
@@ -22,12 +24,13 @@ use Rattle.text.proofs.NumberLaws.{field-text, field-split, field-near, field-t
 use Rattle.form.specs.Form.{found, andThen, judged, keyed, chain}
 use Rattle.form.specs.Line.{formed, ranged, number, items}
 use Rattle.form.specs.Inverse.{WasRead, Inverse, Settled, Reaches}
-use Rattle.form.proofs.Found.{found-place, then-found, also-first, also-second, judged-passed, judged-found}
+use Rattle.form.proofs.Found.{found-place, then-found, also-first, also-second, checks-each, judged-passed, judged-found}
 use Rattle.form.proofs.Combine.{was-same, reaches-more, keyed-inverse, keyed-settled, keyed-reaches, chain-inverse, chain-settled, chain-reaches, held-inverse, held-settled, held-reaches, times-inverse, times-settled, times-reaches}
 use Rattle.form.proofs.Lines.{formed-value, ranged-within, ranged-small, items-inverse, items-settled, items-reaches, ranged-inverse, ranged-read, ranged-settled, number-line-reaches, word-was}
 use Rattle.form.proofs.Card.{read-back, written-again, passes-exactly, text-short}
 use Rattle.net.specs.declared.Latest.{Latest}
 use Rattle.net.specs.declared.Latest.the-variants.{Unbounded, Ticks}
+use Rattle.net.specs.declared.Transition.{Transition}
 use Rattle.net.specs.declared.Net.{Net}
 use Rattle.net.specs.Keys.{placesKey, transitionsKey, startKey, earliestKey, latestKey, takeKey, giveKey, infLine}
 use Rattle.net.specs.Net.{latestChecked, latest, weights, toTransition, fromTransition, transition, noTransition, starts, table, body, toNet, fromNet, netCard}
@@ -249,6 +252,17 @@ pub net-transitions : (n : Net) → netCard .check n 1 ≡ Passed → (1 ≤ n .
 net-transitions n p =
     ranged-within 1 32 (n .transitions) 2
     (also-first (ranged 1 32 (n .transitions) 2) _ (also-second (ranged 1 16 (n .places) 1) _ p))
+
+-- and the lower bounds of its transitions
+pub net-earliest : (n : Net) → netCard .check n 1 ≡ Passed → (t : ℕ) → t < n .transitions → getD (n .table) t noTransition .earliest ≤ 1000
+net-earliest n p t h =
+    let listed = firstOf (n .transitions) noTransition (n .table) in
+    let behind = also-second (ranged 1 32 (n .transitions) 2) _ (also-second (ranged 1 16 (n .places) 1) _ p) in
+    let each =
+    checks-each (transition (n .places)) (λ (x : Transition). x .earliest ≤ 1000)
+    (λ x line e. ranged-within 0 1000 (x .earliest) line (also-first (ranged 0 1000 (x .earliest) line) _ e) .1)
+    listed _ (also-second (starts (n .places) .check (n .start) 3) _ behind) in
+    rw getD-first at (each-at (λ (x : Transition). x .earliest ≤ 1000) noTransition listed each t (omega (arith, length-first (n .transitions) noTransition (n .table))))
 
 -- what is no part of a net lies in its arrays alone
 pub net-clean : (n : Net) → (netCard .clean n .places ≡ n .places) × (netCard .clean n .transitions ≡ n .transitions)

@@ -5,14 +5,14 @@ use mathlib.Core.Path.{_≡_, refl, sym}
 use mathlib.Core.Bool.{Bool, true, false, cond}
 use mathlib.Core.Logic.{_↔_}
 use mathlib.Core.List.{List, _++_}
-use lib.ListN.{length, take, drop}
+use lib.ListN.{length, take, drop, replicate, length-replicate}
 use lib.Seq.{take-append-seam, drop-append-seam}
 use lib.Dec.{ltb}
-use borrow.Author.Tests.{ltb-true, ltb-false, lt-ltb}
+use borrow.Author.Tests.{ltb-true, ltb-false, lt-ltb, le-ltb}
 use Rattle.reply.specs.declared.Refusal.{Refusal}
 use Rattle.reply.specs.declared.Refusal.the-variants.{OutputTooShort}
 use Rattle.reply.specs.declared.Reply.the-variants.{Written, Refused}
-use Rattle.reply.specs.Respond.{Outcome, answer, refusal, replyTo, outputOf}
+use Rattle.reply.specs.Respond.{Outcome, answer, refusal, Answered, replyTo, outputOf}
 
 -- nothing is altered on a refusal
 pub refused-alters-nothing : (o : Outcome) (out : List ℕ) (r : Refusal) → replyTo o out ≡ Refused r → outputOf o out ≡ out
@@ -56,3 +56,23 @@ too-short bytes out = (go (ltb (length out) (length bytes)) refl, λ h. rw (lt-l
 -- any other refusal is told whatever the output
 pub refused-whatever : (r : Refusal) (out : List ℕ) → replyTo (refusal r) out ≡ Refused r
 refused-whatever r out = refl
+
+-- and no refusal but 9 is told of an answer
+pub refused-exactly : (o : Outcome) (r : Refusal) → (r ≡ OutputTooShort → ⊥) → (out : List ℕ) → (replyTo o out ≡ Refused r) ↔ (o ≡ refusal r)
+refused-exactly (answer bytes) r other out = (go (ltb (length out) (length bytes)), λ e. let z : _≡_ {A = ℕ} 0 1 = cc in absurd (omega arith))
+  where
+    go : (t : Bool) → cond t (Refused OutputTooShort) (Written (length bytes)) ≡ Refused r → answer bytes ≡ refusal r
+    go true e = absurd (other (cc))
+    go false e = let z : _≡_ {A = ℕ} 0 1 = cc in absurd (omega arith)
+refused-exactly (refusal r′) r other out = (λ e. cc, λ e. cc)
+
+-- an answer of n bytes is written to every output that holds them, and nothing else is ever written
+pub written-exactly : (o : Outcome) → Answered o ↔ ((n : ℕ) × ((out : List ℕ) → n ≤ length out → replyTo o out ≡ Written n))
+written-exactly o = (λ a. (length (a .0), λ out h. rw (a .1, le-ltb (length out) (length (a .0)) h) refl), back o)
+  where
+    back : (o : Outcome) → ((n : ℕ) × ((out : List ℕ) → n ≤ length out → replyTo o out ≡ Written n)) → Answered o
+    back (answer bytes) w = (bytes, refl)
+    back (refusal r) w =
+        let e : Refused r ≡ Written (w .0) = w .1 (replicate (w .0) 0) (omega (arith, length-replicate {A = ℕ} (w .0) 0)) in
+        let z : _≡_ {A = ℕ} 0 1 = cc in
+        absurd (omega arith)

@@ -15,6 +15,10 @@ pub data Outcome : Type 0 where
   answer : List ℕ → Outcome
   refusal : Refusal → Outcome
 
+-- there is an answer: no refusal but 9 can come of it
+abbrev pub Answered : Outcome → Type 0
+Answered o = (bytes : List ℕ) × (o ≡ answer bytes)
+
 -- the reply, from the outcome and the output at entry
 abbrev pub replyTo : Outcome → List ℕ → Reply
 replyTo (answer bytes) out = cond (ltb (length out) (length bytes)) (Refused OutputTooShort) (Written (length bytes))

@@ -1,7 +1,10 @@
--- What was read back is the same run, or the same order: cleaning changes no slot that counts.
+-- What was read back is the same run, or the same order: cleaning changes no slot that counts, and nothing where the others hold the filler.
 use Prim.Native.Nat.{ℕ}
-use mathlib.Core.Path.{refl}
-use Rattle.laws.specs.Slots.{getD-changed}
+use mathlib.Core.Path.{_≡_, refl, ap, _∙_}
+use mathlib.Core.List.{List, map, map-id}
+use lib.ListN.{length}
+use Rattle.laws.specs.Slots.{firstOf, padTo, first-pad, getD-changed}
+use Rattle.run.specs.declared.Firing.{Firing}
 use Rattle.run.specs.declared.Run.{Run}
 use Rattle.run.specs.declared.Order.{Order}
 use Rattle.run.specs.Run.{noFiring, firing, runCard, orderCard}
@@ -20,3 +23,11 @@ run-same transitions r =
 pub order-same : (transitions : ℕ) (o : Order) → SameOrder (orderCard transitions .clean o) o
 order-same transitions o =
     record { memory = refl; count = refl; fires = λ i h. getD-changed (λ (n : ℕ). n) (o .count) 64 0 (o .fires) i h }
+
+-- a run whose slots past the count hold the filler is read back as it is
+pub run-clean : (transitions : ℕ) (r : Run) (fs : List Firing) → length fs ≡ r .count → r .firings ≡ padTo 64 noFiring fs → runCard transitions .clean r ≡ r
+run-clean transitions r fs n e =
+    let count = r .count in
+    let found = ap (firstOf count noFiring) e ∙ first-pad count 64 noFiring fs n in
+    let same : padTo 64 noFiring (map (firing transitions .clean) (firstOf count noFiring (r .firings))) ≡ r .firings = rw (found, map-id fs, e) refl in
+    λ i. record { memory = r .memory; denominator = r .denominator; count = count; firings = same i; rest = r .rest }

@@ -34,7 +34,7 @@ use Rattle.firing.proofs.RowLaws.{enough-same, limit-same, fired-same}
 use Rattle.timing.specs.declared.Bound.{Bound}
 use Rattle.timing.specs.declared.Collected.{Collected}
 use Rattle.timing.specs.Timing.{Win, windows}
-use Rattle.timing.specs.Windows.{tokensJudged, tokens, upperOf, windowAt, windowsFrom, windowsOf}
+use Rattle.timing.specs.Windows.{tokensJudged, tokens, upperOf, windowAt, windowsFrom, windowsOf, firesOf}
 use Rattle.timing.specs.Collect.{tokensIn, boundOf, upperIn, windowIn, Collects}
 use Rattle.timing.proofs.Meet.{refused-not}
 
@@ -88,7 +88,7 @@ module _ (net : Net) (order : Order) where
   rule = ruleOf net (order .memory)
 
   abbrev whole : List ℕ
-  whole = firstOf (order .count) 0 (order .fires)
+  whole = firesOf order
 
   -- a state without the slots past the counts
   abbrev counted : State → State

@@ -4,12 +4,14 @@ use Prim.Native.Nat.{ℕ, zero, suc, _+_, _*_, _-_, _/_, _≤_, _<_}
 use native.Mathlib.Nat.{le-of-suc-le-suc, not-suc-le-zero}
 use native.Mathlib.Omega.{arith}
 use mathlib.Core.Path.{_≡_, refl, sym, ap, _∙_}
+use mathlib.Core.Logic.{⊎-elim}
 use mathlib.Core.List.{List, [], _∷_}
 use lib.ListN.{length, getD, take}
 use Rattle.laws.specs.Div.{div-le}
 use Rattle.laws.specs.Each.{Each}
 use Rattle.laws.specs.EachAt.{each-of}
-use Rattle.laws.specs.Slots.{firstOf, length-first, first-pad}
+use Rattle.laws.specs.Slots.{length-first, first-pad}
+use Rattle.laws.specs.Sum.{le-or-lt}
 use Rattle.laws.specs.WholeParts.{div-sum-le, whole-near, difference-near}
 use Rattle.reply.specs.declared.Checked.the-variants.{Passed}
 use Rattle.net.specs.declared.Net.{Net}
@@ -18,16 +20,17 @@ use Rattle.run.specs.declared.Firing.{Firing}
 use Rattle.run.specs.declared.Run.{Run}
 use Rattle.run.specs.declared.Order.{Order}
 use Rattle.run.specs.Run.{noFiring, runCard, orderCard}
+use Rattle.run.proofs.Same.{run-clean}
 use Rattle.firing.specs.Semantics.{Restart, transitionAt}
 use Rattle.firing.specs.Replay.{startState, play, firingsOf, replay}
-use Rattle.timing.specs.Windows.{orderOf, waitsOf, instants, Timing}
+use Rattle.timing.specs.Windows.{firesOf, orderOf, waitsOf, instants, Timing}
 use Rattle.timing.specs.Schedule.{timed, schedule, roundedFrom, roundedWaits}
 use Rattle.timing.specs.Rounding.{zipFirings, lastInstant, endInstant, roundedRun, timetableRun}
 use Rattle.timing.proofs.Meet.{length-order, length-waits}
-use Rattle.timing.proofs.Instants.{wait-le, length-rounded, rounded-instants}
+use Rattle.timing.proofs.Instants.{wait-le, instants-past, length-rounded, rounded-instants}
 use Rattle.timing.proofs.Timings.{run-timing, rounded-timing}
 use Rattle.timing.proofs.Scheduled.{scheduled-timing, scheduled-early}
-use Rattle.timing.proofs.RunCards.{FiringFits, run-fits, order-fits}
+use Rattle.timing.proofs.RunCards.{FiringFits, run-in-ranges, order-in-ranges}
 use Rattle.timing.proofs.Markings.{order-markings}
 
 -- ---- the firings of an order after waits
@@ -59,6 +62,11 @@ module _ (memory : Memory) (order waits : List ℕ) (e : length waits ≡ length
 
   pub timetable-waits : waitsOf (firingsOf (timetableRun memory order waits)) ≡ waits
   timetable-waits = ap waitsOf timetable-firings ∙ waits-zip waits order e
+
+  -- nothing stands behind its firings
+  pub timetable-clean : (transitions : ℕ) → runCard transitions .clean (timetableRun memory order waits) ≡ timetableRun memory order waits
+  unfolding timetableRun
+  timetable-clean transitions = run-clean transitions (timetableRun memory order waits) (zipFirings waits order) (length-zip waits order e) refl
 
 zip-accepted : (net : Net) (restarts : Restart) (order waits : List ℕ) → Timing net restarts 1 order waits
     → play net restarts 1 (zipFirings waits order) (startState net) 0 .checked ≡ Passed
@@ -93,6 +101,11 @@ module _ (r : Run) where
   pub rounded-firings : firingsOf (roundedRun r) ≡ zipFirings (roundedWaits D (waitsOf fs)) (orderOf fs)
   unfolding firingsOf roundedRun
   rounded-firings = first-pad (r .count) 64 noFiring (zipFirings (roundedWaits D (waitsOf fs)) (orderOf fs)) count-rounded
+
+  -- nothing stands behind them
+  pub rounded-clean : (transitions : ℕ) → runCard transitions .clean (roundedRun r) ≡ roundedRun r
+  unfolding roundedRun
+  rounded-clean transitions = run-clean transitions (roundedRun r) (zipFirings (roundedWaits D (waitsOf fs)) (orderOf fs)) count-rounded refl
 
   pub rounded-order : orderOf (firingsOf (roundedRun r)) ≡ orderOf fs
   rounded-order = ap orderOf rounded-firings ∙ order-zip _ _ rounded-sizes
@@ -166,11 +179,11 @@ rounded-fit D d s (w ∷ ws) h = (omega (arith, div-sum-le D d s w, h .0), round
 pub rounded-checked : (transitions : ℕ) (r : Run) → runCard transitions .check r 1 ≡ Passed → runCard transitions .check (roundedRun r) 1 ≡ Passed
 unfolding roundedRun roundedWaits firingsOf
 rounded-checked transitions r e =
-    let f = run-fits transitions r .0 e in
+    let f = run-in-ranges transitions r .0 e in
     let D = r .denominator in
     let fs = firingsOf r in
     let d : 0 < D = f .some-parts in
-    run-fits transitions (roundedRun r) .1 (record {
+    run-in-ranges transitions (roundedRun r) .1 (record {
       some-parts = omega arith;
       few-parts = omega arith;
       few = f .few;
@@ -184,13 +197,13 @@ rounded-checked transitions r e =
 -- the card of a timetable passes where that of its order does and no wait is too long
 pub timetable-checked : (transitions : ℕ) (o : Order) (memory : Memory) (waits : List ℕ) → orderCard transitions .check o 1 ≡ Passed
     → length waits ≡ o .count → ((i : ℕ) → i < length waits → getD waits i 0 ≤ 10000000)
-    → runCard transitions .check (timetableRun memory (firstOf (o .count) 0 (o .fires)) waits) 1 ≡ Passed
+    → runCard transitions .check (timetableRun memory (firesOf o) waits) 1 ≡ Passed
 unfolding timetableRun firingsOf
 timetable-checked transitions o memory waits e size h =
-    let order = firstOf (o .count) 0 (o .fires) in
-    let f = order-fits transitions o e in
+    let order = firesOf o in
+    let f = order-in-ranges transitions o e in
     let n : length order ≡ o .count = length-first (o .count) 0 (o .fires) in
-    run-fits transitions (timetableRun memory order waits) .1 (record {
+    run-in-ranges transitions (timetableRun memory order waits) .1 (record {
       some-parts = omega arith;
       few-parts = omega arith;
       few = omega (arith, f .0, n);
@@ -198,11 +211,28 @@ timetable-checked transitions o memory waits e size h =
       rest = omega arith;
     })
 
--- no wait of a timetable is too long where no lower bound is over 1,000 ticks
-pub scheduled-short : (net : Net) (restarts : Restart) (order ws : List ℕ) → schedule net restarts order ≡ timed ws
-    → ((t : ℕ) → t < net .transitions → transitionAt net t .earliest ≤ 1000) → length order ≤ 64 → (i : ℕ) → i < length ws → getD ws i 0 ≤ 10000000
-scheduled-short net restarts order ws e h few i l =
-    omega (arith, wait-le ws i, scheduled-early net restarts order ws e 1000 h (suc i), scheduled-timing net restarts order ws e .complete)
+-- a timetable of at most 64 firings on a net where no lower bound is over 1,000 ticks
+module _ (net : Net) (restarts : Restart) (order ws : List ℕ) (e : schedule net restarts order ≡ timed ws)
+    (h : (t : ℕ) → t < net .transitions → transitionAt net t .earliest ≤ 1000) (few : length order ≤ 64) where
+  -- no instant is over 64,000 ticks
+  pub scheduled-within : (i : ℕ) → instants ws i ≤ 64000
+  scheduled-within i =
+      let size = scheduled-timing net restarts order ws e .complete in
+      let early = scheduled-early net restarts order ws e 1000 h in
+      ⊎-elim (λ l. omega (arith, early i)) (λ l. omega (arith, instants-past ws i (omega arith), early (length ws))) (le-or-lt i (length ws))
+
+  -- so no wait is too long
+  pub scheduled-short : (i : ℕ) → i < length ws → getD ws i 0 ≤ 10000000
+  scheduled-short i l = omega (arith, wait-le ws i, scheduled-within (suc i))
+
+-- the card of the timetable of an order passes where the order's does
+pub scheduled-checked : (net : Net) (restarts : Restart) (o : Order) (ws : List ℕ) → schedule net restarts (firesOf o) ≡ timed ws
+    → ((t : ℕ) → t < net .transitions → transitionAt net t .earliest ≤ 1000) → orderCard (net .transitions) .check o 1 ≡ Passed
+    → runCard (net .transitions) .check (timetableRun (o .memory) (firesOf o) ws) 1 ≡ Passed
+scheduled-checked net restarts o ws e h p =
+    let size = length-first (o .count) 0 (o .fires) in
+    timetable-checked (net .transitions) o (o .memory) ws p (scheduled-timing net restarts (firesOf o) ws e .complete ∙ size)
+    (scheduled-short net restarts (firesOf o) ws e h (omega (arith, order-in-ranges (net .transitions) o p .0)))
 
 -- ---- "Each clock and each instant moves by less than one tick": in parts, of which a tick has D
 instants-up : (ws : List ℕ) (o i : ℕ) → o ≤ i → instants ws o ≤ instants ws i

@@ -12,13 +12,14 @@ use Rattle.reply.specs.declared.Refusal.the-variants.{NoSuchTransition}
 use Rattle.reply.specs.declared.Checked.the-variants.{Passed}
 use Rattle.form.specs.Form.{checks}
 use Rattle.form.specs.Line.{ranged, listed}
-use Rattle.form.proofs.Found.{also-first, also-second, test-passed}
+use Rattle.form.proofs.Found.{also-first, also-second, checks-each, test-passed}
 use Rattle.form.proofs.Lines.{ranged-within}
 use Rattle.run.specs.declared.Firing.{Firing}
 use Rattle.run.specs.declared.Run.{Run}
 use Rattle.run.specs.declared.Order.{Order}
 use Rattle.run.specs.Run.{fire, firing, noFiring, runCard, orderCard}
 use Rattle.run.proofs.Check.{order-count-within}
+use Rattle.timing.specs.Windows.{firesOf}
 
 ranged-passes : (low high n line : ℕ) → low ≤ n → n ≤ high → ranged low high n line ≡ Passed
 ranged-passes low high n line a b = rw (le-leb low n a, le-leb n high b) refl
@@ -32,17 +33,11 @@ FiringFits transitions f = (f .wait ≤ 10000000) × (f .fire < transitions)
 
 module _ (transitions : ℕ) where
   firings-fit : (l : List Firing) (line : ℕ) → checks (firing transitions) l line ≡ Passed → Each (FiringFits transitions) l
-  unfolding checks
-  firings-fit [] line e = tt
-  firings-fit (f ∷ l) line e =
-      let here = firing transitions .check f line in
-      let rest = checks (firing transitions) l (line + 2) in
-      let p = also-first here rest e in
+  firings-fit =
+      checks-each (firing transitions) (FiringFits transitions) (λ f line e.
       let wait = ranged 0 10000000 (f .wait) line in
-      let fired = listed transitions (f .fire) (line + 1) in (
-        (ranged-within 0 10000000 (f .wait) line (also-first wait fired p) .1, listed-within transitions (f .fire) (line + 1) (also-second wait fired p)),
-        firings-fit l (line + 2) (also-second here rest e),
-      )
+      let fired = listed transitions (f .fire) (line + 1) in
+      (ranged-within 0 10000000 (f .wait) line (also-first wait fired e) .1, listed-within transitions (f .fire) (line + 1) (also-second wait fired e)))
 
   firings-pass : (l : List Firing) (line : ℕ) → Each (FiringFits transitions) l → checks (firing transitions) l line ≡ Passed
   unfolding checks
@@ -51,12 +46,7 @@ module _ (transitions : ℕ) where
       rw (ranged-passes 0 10000000 (f .wait) line (omega arith) (h .0 .0), lt-ltb (f .fire) transitions (h .0 .1)) (firings-pass l (line + 2) (h .1))
 
   fires-fit : (l : List ℕ) (line : ℕ) → checks (fire transitions) l line ≡ Passed → Each (λ t. t < transitions) l
-  unfolding checks
-  fires-fit [] line e = tt
-  fires-fit (t ∷ l) line e =
-      let here = listed transitions t line in
-      let rest = checks (fire transitions) l (line + 1) in
-      (listed-within transitions t line (also-first here rest e), fires-fit l (line + 1) (also-second here rest e))
+  fires-fit = checks-each (fire transitions) (λ t. t < transitions) (listed-within transitions)
 
 -- a run whose numbers lie in their ranges
 pub record RunFits (transitions : ℕ) (r : Run) : Type 0 where
@@ -66,8 +56,8 @@ pub record RunFits (transitions : ℕ) (r : Run) : Type 0 where
   pub each : Each (FiringFits transitions) (firstOf (r .count) noFiring (r .firings))
   pub rest : r .rest ≤ 10000000
 
-pub run-fits : (transitions : ℕ) (r : Run) → (runCard transitions .check r 1 ≡ Passed) ↔ RunFits transitions r
-run-fits transitions r =
+pub run-in-ranges : (transitions : ℕ) (r : Run) → (runCard transitions .check r 1 ≡ Passed) ↔ RunFits transitions r
+run-in-ranges transitions r =
     let denominator = ranged 1 1000 (r .denominator) 2 in
     let count = ranged 0 64 (r .count) 3 in
     let firings = checks (firing transitions) (firstOf (r .count) noFiring (r .firings)) 4 in (
@@ -90,6 +80,6 @@ run-fits transitions r =
           ) (ranged-passes 0 10000000 (r .rest) _ (omega arith) (f .rest)),
     )
 
-pub order-fits : (transitions : ℕ) (o : Order) → orderCard transitions .check o 1 ≡ Passed → (o .count ≤ 64) × Each (λ t. t < transitions) (firstOf (o .count) 0 (o .fires))
-order-fits transitions o e =
-    (order-count-within transitions o e, fires-fit transitions (firstOf (o .count) 0 (o .fires)) 3 (also-second (ranged 0 64 (o .count) 2) _ e))
+pub order-in-ranges : (transitions : ℕ) (o : Order) → orderCard transitions .check o 1 ≡ Passed → (o .count ≤ 64) × Each (λ t. t < transitions) (firesOf o)
+order-in-ranges transitions o e =
+    (order-count-within transitions o e, fires-fit transitions (firesOf o) 3 (also-second (ranged 0 64 (o .count) 2) _ e))

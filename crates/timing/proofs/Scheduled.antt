@@ -1,23 +1,26 @@
 -- What `schedule` answers, for any restart rule and orders of any length: where the tokens allow the order, the earliest timing there is at any
 -- denominator, or the first firing up to which there is none. The least instants in whole ticks are least at every denominator, since rounding a timing
 -- down gives a timing.
-use Prim.Native.Nat.{ℕ, _*_, _≤_, _<_}
+use Prim.Native.Nat.{ℕ, _+_, _*_, _≤_, _<_}
 use native.Mathlib.Nat.{mul-le-mul-left}
 use native.Mathlib.Omega.{arith}
 use mathlib.Core.Path.{_≡_, refl, sym, ap, subst, _∙_}
 use mathlib.Core.Logic.{_↔_, ⊎-elim}
-use mathlib.Core.List.{List}
+use mathlib.Core.Bool.{Bool, true, false, cond}
+use mathlib.Core.List.{List, [], _∷_}
 use mathlib.Core.Option.{Option, none, some}
 use lib.ListN.{length}
 use Rattle.laws.specs.Sum.{le-or-lt}
 use Rattle.reply.specs.declared.Refusal.{Refusal}
-use Rattle.reply.specs.declared.Refusal.the-variants.{Untimable}
+use Rattle.reply.specs.declared.Refusal.the-variants.{NotEnabled, TooManyTokens, Untimable}
 use Rattle.reply.specs.declared.Checked.{Checked}
 use Rattle.reply.specs.declared.Checked.the-variants.{Passed, Refused}
+use Rattle.form.specs.Form.{also}
 use Rattle.net.specs.declared.Net.{Net}
-use Rattle.firing.specs.Semantics.{Restart, transitionAt, startMarking}
+use Rattle.firing.specs.Semantics.{Restart, transitionAt, startMarking, enabled, after}
+use Rattle.firing.specs.Replay.{bounded}
 use Rattle.timing.specs.Timing.{Win, windows, Wellformed}
-use Rattle.timing.specs.Windows.{tokens, windowsOf, instants, Timing, Timable}
+use Rattle.timing.specs.Windows.{tokensJudged, tokens, windowsOf, instants, Timing, Timable}
 use Rattle.timing.specs.Solve.{instantAt, solve, Verdict, metBy, failsAt}
 use Rattle.timing.specs.Claims.{Possible, LeastInstants, Answers, FirstFail, Judges, FirstUntimable}
 use Rattle.timing.specs.Schedule.{earliestOf, waitsBetween, timed, unschedulable, scheduledBy, schedule}
@@ -30,6 +33,19 @@ use Rattle.timing.proofs.Timings.{timable-possible, ticks-exactly, pref
 
 not-timed : {r : Refusal} {ws : List ℕ} → unschedulable r ≡ timed ws → ⊥
 not-timed e = let z : _≡_ {A = ℕ} 0 1 = cc in omega arith
+
+-- the tokens never say 8
+tokens-other : (net : Net) (order m : List ℕ) (n k : ℕ) → tokens net order m n ≡ Refused (Untimable k) → ⊥
+unfolding tokens tokensJudged
+tokens-other net [] m n k = λ e. let z : _≡_ {A = ℕ} 0 1 = cc in omega arith
+tokens-other net (t ∷ order) m n k = go (enabled net m t) (bounded net (after net m t)) (tokens-other net order (after net m t) (n + 1) k)
+  where
+    go : (a b : Bool) → (tokens net order (after net m t) (n + 1) ≡ Refused (Untimable k) → ⊥)
+        → also (cond a (cond b Passed (Refused (TooManyTokens (n + 1)))) (Refused (NotEnabled (n + 1)))) (tokens net order (after net m t) (n + 1)) ≡ Refused (Untimable k)
+        → ⊥
+    go true true ih e = ih e
+    go true false ih e = let z : _≡_ {A = ℕ} 0 1 = cc in omega arith
+    go false b ih e = let z : _≡_ {A = ℕ} 0 1 = cc in omega arith
 
 -- instants that meet the first n windows, made least
 pub possible-least : (W : ℕ → Win) (n : ℕ) → Wellformed W n → Possible 1 W n → (x : List ℕ) × LeastInstants 1 W n x
@@ -160,3 +176,29 @@ module _ (net : Net) (restarts : Restart) (order : List ℕ) where
         go : (v : Verdict) → Judges 1 W n v → scheduledBy v ≡ unschedulable (Untimable k) → FirstUntimable net restarts order k
         go (metBy x) j p = absurd (not-timed (sym p))
         go (failsAt m) j p = let q : m ≡ k = cc in first-untimable k (subst (FirstFail 1 W n) q j)
+
+    -- and at some k exactly when there is no timing at all
+    pub untimable-none : ((k : ℕ) × (schedule net restarts order ≡ unschedulable (Untimable k))) ↔ ((D : ℕ) → 0 < D → Timable net restarts D order → ⊥)
+    untimable-none = (
+      λ p D d t. not-timed (sym (p .1) ∙ scheduled-exactly .1 (D, d, t) .1),
+      λ h. go h (earliestOf net restarts order) refl,
+    )
+      where
+        go : ((D : ℕ) → 0 < D → Timable net restarts D order → ⊥) → (v : Verdict) → earliestOf net restarts order ≡ v
+            → (k : ℕ) × (schedule net restarts order ≡ unschedulable (Untimable k))
+        go h (metBy x) q = absurd (h 1 (omega arith) (waitsBetween x, scheduled-timing (waitsBetween x) (schedule-passed e ∙ ap scheduledBy q)))
+        go h (failsAt k) q = (k, schedule-passed e ∙ ap scheduledBy q)
+
+  -- so it is refused as untimable at k exactly when the tokens allow it and k is that firing
+  pub untimable-allowed : (k : ℕ) → (schedule net restarts order ≡ unschedulable (Untimable k))
+      ↔ ((tokens net order (startMarking net) 0 ≡ Passed) × FirstUntimable net restarts order k)
+  untimable-allowed k = (
+    λ p. let e = go (tokens net order (startMarking net) 0) refl p in (e, untimable-exactly e k .0 p),
+    λ p. untimable-exactly (p .0) k .1 (p .1),
+  )
+    where
+      go : (c : Checked) → tokens net order (startMarking net) 0 ≡ c → schedule net restarts order ≡ unschedulable (Untimable k) → c ≡ Passed
+      go Passed q p = refl
+      go (Refused r) q p =
+          let same : unschedulable r ≡ unschedulable (Untimable k) = sym (schedule-refused r q) ∙ p in
+          absurd (tokens-other net order (startMarking net) 0 k (cc))

@@ -4,6 +4,7 @@ use mathlib.Core.Path.{_≡_}
 use mathlib.Core.Bool.{cond}
 use mathlib.Core.List.{List, [], _∷_, map}
 use lib.ListN.{length, getD}
+use Rattle.laws.specs.Slots.{firstOf}
 use Rattle.reply.specs.declared.Refusal.the-variants.{NotEnabled, TooManyTokens}
 use Rattle.reply.specs.declared.Checked.{Checked}
 use Rattle.reply.specs.declared.Checked.the-variants.{Passed, Refused}
@@ -12,6 +13,7 @@ use Rattle.net.specs.declared.Latest.{Latest}
 use Rattle.net.specs.declared.Latest.the-variants.{Unbounded, Ticks}
 use Rattle.net.specs.declared.Net.{Net}
 use Rattle.run.specs.declared.Firing.{Firing}
+use Rattle.run.specs.declared.Order.{Order}
 use Rattle.firing.specs.declared.State.{State}
 use Rattle.firing.specs.Semantics.{Restart, transitionAt, startMarking, enabled, after}
 use Rattle.firing.specs.Replay.{startState, waited, bounded, fired}
@@ -41,6 +43,10 @@ windowsFrom net restarts (t ∷ ts) st = windowAt net st t ∷ windowsFrom net r
 
 unfoldable pub windowsOf : Net → Restart → List ℕ → List Win
 windowsOf net restarts order = windowsFrom net restarts order (startState net)
+
+-- the firings of an order value: slots past the count are no part of it
+abbrev pub firesOf : Order → List ℕ
+firesOf o = firstOf (o .count) 0 (o .fires)
 
 -- the order of a run, and its waits
 unfoldable pub orderOf : List Firing → List ℕ
