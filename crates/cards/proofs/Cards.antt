@@ -20,11 +20,12 @@ use Rattle.net.proofs.Card.{netReach, net-places, net-transitions}
 use Rattle.run.specs.declared.Run.{Run}
 use Rattle.run.specs.declared.Order.{Order}
 use Rattle.run.specs.Run.{runCard, orderCard}
-use Rattle.run.specs.Code.{noRun}
+use Rattle.run.specs.Code.{noRun, noOrder}
 use Rattle.run.proofs.Card.{runReach, orderReach, run-inverse, run-settled, run-reaches, order-inverse, order-settled, order-reaches}
 use Rattle.run.proofs.Check.{run-count-within, order-count-within}
 use Rattle.cards.specs.declared.RunInput.{RunInput}
-use Rattle.cards.specs.Cards.{readRun, readOrder, runCards, orderCards, runInput, runChecked, orderChecked, runText, orderText}
+use Rattle.cards.specs.declared.OrderInput.{OrderInput}
+use Rattle.cards.specs.Cards.{readRun, readOrder, runCards, orderCards, runInput, orderInput, runChecked, orderChecked, runText, orderText}
 use Rattle.cards.proofs.OnNet.{card-read-back, card-written-again, card-passes-exactly, card-short, both-prefix, both-passed}
 
 module _ (net : Net) where
@@ -68,11 +69,16 @@ module _ (net : Net) where
   pub order-short : (o : Order) → orderChecked net o ≡ Passed → length (orderCard (net .transitions) .text o) ≤ orderReach
   order-short = card-short (netCard .check net 1) (orderCard (net .transitions)) card-order-inverse (order-reaches (net .transitions))
 
-  -- the counts of a run of a net that passes
+  -- the counts of a run and of an order of a net that pass
   pub run-counts : (r : Run) → runChecked net r ≡ Passed → (net .places ≤ 16) × (net .transitions ≤ 32) × (r .count ≤ 64)
   run-counts r p =
       let q = also-first (netCard .check net 1) _ p in
       (net-places net q .1, net-transitions net q .1, run-count-within (net .transitions) r (also-second (netCard .check net 1) _ p))
+
+  pub order-counts : (o : Order) → orderChecked net o ≡ Passed → (net .places ≤ 16) × (net .transitions ≤ 32) × (o .count ≤ 64)
+  order-counts o p =
+      let q = also-first (netCard .check net 1) _ p in
+      (net-places net q .1, net-transitions net q .1, order-count-within (net .transitions) o (also-second (netCard .check net 1) _ p))
 
   -- a run of a net that passes has a card that fits into a buffer of 2,048 bytes, and an order one that fits into 1,024
   pub run-fits : (r : Run) → runChecked net r ≡ Passed → (r .count ≤ 64) × (0 + length (runCard (net .transitions) .text r) ≤ 2048)
@@ -102,3 +108,10 @@ module _ (s : List ℕ) {i : RunInput} (is : i ≡ runInput (runCards s)) where
 
   pub run-input-found : {next : ℕ} → i .read ≡ Next next → runCards s ≡ found (i .net, i .run) next
   run-input-found e = line-found (runCards s) (noNet, noRun) (i .net, i .run) (i .read) (λ k. is k .read) (λ k. (is k .net, is k .run)) e
+
+module _ (s : List ℕ) {i : OrderInput} (is : i ≡ orderInput (orderCards s)) where
+  pub order-input-stopped : {r : Refusal} → i .read ≡ Stopped r → orderCards s ≡ refused r
+  order-input-stopped e = line-stopped (orderCards s) (i .read) (λ k. is k .read) e
+
+  pub order-input-found : {next : ℕ} → i .read ≡ Next next → orderCards s ≡ found (i .net, i .order) next
+  order-input-found e = line-found (orderCards s) (noNet, noOrder) (i .net, i .order) (i .read) (λ k. is k .read) (λ k. (is k .net, is k .order)) e

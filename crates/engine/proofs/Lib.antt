@@ -1,4 +1,6 @@
 pub mod End
 pub mod Outcome
+pub mod Rounding
+pub mod Scheduling
 pub mod Answers
 pub mod Demands

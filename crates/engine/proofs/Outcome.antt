@@ -61,6 +61,10 @@ module _ (net : Net) (run : Run) (p : Played)
   unfolding replay waited
   replay-same = ap (rested (run .rest)) (sym is)
 
+  -- the replay judges the run as its firings were judged
+  pub replay-judged : replay net (ruleOf net (run .memory)) run .checked ≡ p .checked
+  replay-judged = ap (λ (x : Played). x .checked) replay-same
+
   outcome-same : replayOf net run ≡ ended net (p .checked) (counted net atRest)
   outcome-same = ap (λ (x : Played). ended net (x .checked) (x .state)) replay-same
 

@@ -1,13 +1,13 @@
 -- One slot more of a list in an array: a store behind what is held makes it one longer, and behind each counted slot lies the next.
-use Prim.Native.Nat.{ℕ, suc, _+_, _-_, _<_}
+use Prim.Native.Nat.{ℕ, suc, _+_, _-_, _≤_, _<_}
 use native.Mathlib.Numerals.{add-one}
 use native.Mathlib.Omega.{arith}
 use mathlib.Core.Bool.{Bool, true, false}
 use mathlib.Core.List.{List, [], _∷_, _++_}
 use mathlib.Core.Path.{_≡_, refl, sym, ap, _∙_}
 use lib.Dec.{eqb}
-use lib.ListN.{length, getD, set, drop, replicate, length-append}
-use lib.Seq.{set-append-seam, append-snoc, drop-cons}
+use lib.ListN.{length, getD, set, take, drop, replicate, length-append}
+use lib.Seq.{length-take-le, take-suc, set-append-seam, append-snoc, drop-cons}
 use borrow.Author.Tests.{eqb-true, eqb-false, eq-eqb, ne-eqb}
 use Rattle.laws.specs.Slots.{firstOf, padTo, length-first, getD-first}
 
@@ -16,6 +16,15 @@ module _ {ℓ} {A : Type ℓ} where
   pad-more size d l a h =
       let one : size - length l ≡ suc (size - length (l ++ (a ∷ []))) = omega (arith, length-append l (a ∷ [])) in
       rw one (set-append-seam l d (replicate (size - length (l ++ (a ∷ []))) d) a ∙ sym (append-snoc l a (replicate (size - length (l ++ (a ∷ []))) d)))
+
+  -- a list stored one element after the other: one more
+  pub pad-next : (size : ℕ) (d : A) (l : List A) (i : ℕ) → i < length l → length l ≤ size
+      → set (padTo size d (take i l)) i (getD l i d) ≡ padTo size d (take (i + 1) l)
+  pad-next size d l i h few =
+      let a = getD l i d in
+      let so-far : length (take i l) ≡ i = length-take-le i l (omega arith) in
+      let one-more : take i l ++ (a ∷ []) ≡ take (i + 1) l = rw add-one (sym (take-suc l i d h)) in
+      ap (λ (k : ℕ). set (padTo size d (take i l)) k a) (sym so-far) ∙ pad-more size d (take i l) a (omega arith) ∙ ap (padTo size d) one-more
 
   pub first-next : (n : ℕ) (d : A) (l : List A) (i : ℕ) → i < n → drop i (firstOf n d l) ≡ getD l i d ∷ drop (i + 1) (firstOf n d l)
   first-next n d l i h =

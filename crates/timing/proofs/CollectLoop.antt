@@ -27,7 +27,7 @@ use Rattle.form.specs.Form.{also}
 use Rattle.firing.specs.declared.State.{State}
 use Rattle.firing.specs.declared.Rows.{Rows}
 use Rattle.firing.specs.Semantics.{Restart, startMarking, transitionAt, enabled, after}
-use Rattle.firing.specs.Replay.{ruleOf, startState, waited, fired}
+use Rattle.firing.specs.Replay.{ruleOf, waited, fired}
 use Rattle.firing.specs.Rows.{Holds, enoughIn, limitIn, FiredIn, standing}
 use Rattle.firing.proofs.PlayLoop.{start-standing}
 use Rattle.firing.proofs.RowLaws.{enough-same, limit-same, fired-same}

@@ -39,6 +39,18 @@ unfolding waitsBetween
 instants-list [] z up i l = absurd (not-suc-le-zero l)
 instants-list (s ∷ xs) z up i l = omega (arith, instants-from s xs (λ k b. up k (suc-le-suc b)) i (le-of-suc-le-suc l))
 
+-- each wait lies between an instant and the next
+from-entry : (s : ℕ) (xs : List ℕ) (i : ℕ) → i < length xs → getD (waitsFrom s xs) i 0 ≡ instantAt (s ∷ xs) (suc i) - instantAt (s ∷ xs) i
+unfolding waitsFrom
+from-entry s [] i l = absurd (not-suc-le-zero l)
+from-entry s (t ∷ ts) zero l = refl
+from-entry s (t ∷ ts) (suc i) l = from-entry t ts i (le-of-suc-le-suc l)
+
+pub between-entry : (x : List ℕ) (i : ℕ) → suc i < length x → getD (waitsBetween x) i 0 ≡ instantAt x (suc i) - instantAt x i
+unfolding waitsBetween
+between-entry [] i l = absurd (not-suc-le-zero l)
+between-entry (s ∷ xs) i l = from-entry s xs i (le-of-suc-le-suc l)
+
 -- of a function that ascends from 0 the waits give the function again, as far as it is listed
 pub instants-between : (S : ℕ → ℕ) (n : ℕ) → S 0 ≡ 0 → ((i : ℕ) → i < n → S i ≤ S (suc i))
     → (i : ℕ) → i ≤ n → instants (waitsBetween (tabled S 0 (suc n))) i ≡ S i

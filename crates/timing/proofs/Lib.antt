@@ -18,3 +18,4 @@ pub mod Markings
 pub mod Rounded
 pub mod RoundLoop
 pub mod CollectLoop
+pub mod TimetableLoop

@@ -5,12 +5,12 @@ use native.Mathlib.Nat.{add-zero, zero-add, add-assoc, le-of-suc-le-suc, not-suc
 use native.Mathlib.Numerals.{add-one}
 use native.Mathlib.Omega.{arith}
 use mathlib.Core.Path.{_≡_, refl, sym, ap, _∙_}
-use mathlib.Core.List.{List, [], _∷_, _++_}
+use mathlib.Core.List.{List, [], _∷_}
 use lib.ListN.{length, getD, set, take, replicate, List·getD-map}
-use lib.Seq.{length-take-le, take-suc, take-all}
+use lib.Seq.{take-all}
 use Rattle.laws.specs.Div.{div-le}
 use Rattle.laws.specs.Slots.{padTo, getD-first}
-use Rattle.laws.specs.SlotSteps.{pad-more}
+use Rattle.laws.specs.SlotSteps.{pad-next}
 use Rattle.laws.specs.WholeParts.{div-sum-le}
 use Rattle.run.specs.declared.Firing.{Firing}
 use Rattle.run.specs.declared.Run.{Run}
@@ -21,7 +21,7 @@ use Rattle.timing.specs.Schedule.{roundedFrom, roundedWaits}
 use Rattle.timing.specs.Rounding.{zipFirings, lastInstant, roundedRun}
 use Rattle.timing.proofs.Meet.{instants-zero, length-waits}
 use Rattle.timing.proofs.Instants.{length-rounded}
-use Rattle.timing.proofs.Rounded.{rounded-sizes, length-firings, count-rounded}
+use Rattle.timing.proofs.Rounded.{zip-entry, rounded-sizes, length-firings, count-rounded}
 
 -- ---- entries
 instants-next : (ws : List ℕ) (i : ℕ) → instants ws (suc i) ≡ instants ws i + getD ws i 0
@@ -35,14 +35,6 @@ unfolding roundedFrom instants
 rounded-entry D s [] i l = absurd (not-suc-le-zero l)
 rounded-entry D s (w ∷ ws) zero l = rw (add-zero s) refl
 rounded-entry D s (w ∷ ws) (suc i) l = rounded-entry D (s + w) ws i (le-of-suc-le-suc l) ∙ rw (add-assoc s w (instants ws i)) refl
-
-zip-entry : (ws order : List ℕ) (i : ℕ) → i < length ws → length ws ≡ length order
-    → getD (zipFirings ws order) i noFiring ≡ record { wait = getD ws i 0; fire = getD order i 0 }
-unfolding zipFirings
-zip-entry [] order i l e = absurd (not-suc-le-zero l)
-zip-entry (w ∷ ws) [] i l e = absurd (omega arith)
-zip-entry (w ∷ ws) (t ∷ order) zero l e = refl
-zip-entry (w ∷ ws) (t ∷ order) (suc i) l e = zip-entry ws order i (le-of-suc-le-suc l) (omega arith)
 
 -- ---- the loop
 module _ (r : Run) where
@@ -95,19 +87,11 @@ module _ (r : Run) where
       pub rounding-more : r .count ≤ 64 → next .wait ≤ 4294967295
           → Rounding (set firings i (record { wait = (s + next .wait) / D - s / D; fire = next .fire })) (s + next .wait) (i + 1)
       rounding-more few short =
-          let size : length (take i gs) ≡ i = length-take-le i gs (omega (arith, count-rounded r)) in
-          let a : Firing = record { wait = (s + next .wait) / D - s / D; fire = next .fire } in
-          let one-more : take i gs ++ (a ∷ []) ≡ take (i + 1) gs =
-          rw (add-one i) (ap (λ (f : Firing). take i gs ++ (f ∷ [])) (sym entry-at) ∙ sym (take-suc gs i noFiring (omega (arith, count-rounded r)))) in
           record {
             within = omega arith;
             instant = rw add-one (omega (arith, instants-next (waitsOf fs) i, wait-at, h .instant));
             soon = omega (arith, h .soon);
-            stored =
-                ap (λ (l : List Firing). set l i a) (h .stored)
-                ∙ ap (λ (k : ℕ). set (padTo 64 noFiring (take i gs)) k a) (sym size)
-                ∙ pad-more 64 noFiring (take i gs) a (omega arith)
-                ∙ ap (padTo 64 noFiring) one-more;
+            stored = rw (h .stored, ← entry-at) (pad-next 64 noFiring gs i (omega (arith, count-rounded r)) (omega (arith, count-rounded r)));
           }
 
     pub rounding-done : r .count ≤ i

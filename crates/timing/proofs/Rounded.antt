@@ -51,6 +51,14 @@ waits-zip (w ∷ ws) (t ∷ order) e = ap (λ (l : List ℕ). w ∷ l) (waits-zi
 pub length-zip : (ws order : List ℕ) → length ws ≡ length order → length (zipFirings ws order) ≡ length order
 length-zip ws order e = sym (length-order (zipFirings ws order)) ∙ ap length (order-zip ws order e)
 
+pub zip-entry : (ws order : List ℕ) (i : ℕ) → i < length ws → length ws ≡ length order
+    → getD (zipFirings ws order) i noFiring ≡ record { wait = getD ws i 0; fire = getD order i 0 }
+unfolding zipFirings
+zip-entry [] order i l e = absurd (not-suc-le-zero l)
+zip-entry (w ∷ ws) [] i l e = absurd (omega arith)
+zip-entry (w ∷ ws) (t ∷ order) zero l e = refl
+zip-entry (w ∷ ws) (t ∷ order) (suc i) l e = zip-entry ws order i (le-of-suc-le-suc l) (omega arith)
+
 -- ---- a run of the given waits and order
 module _ (memory : Memory) (order waits : List ℕ) (e : length waits ≡ length order) where
   pub timetable-firings : firingsOf (timetableRun memory order waits) ≡ zipFirings waits order

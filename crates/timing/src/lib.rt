@@ -7,11 +7,12 @@ use run::Firing;
 use run::Order;
 use run::Run;
 ghost use mathlib.Core.Path.{_≡_};
-ghost use Prim.Native.Nat.{_≤_, _<_};
-ghost use lib.ListN.{length};
-ghost use Rattle.laws.specs.Slots.{firstOf};
+ghost use Prim.Native.Nat.{ℕ, suc, _≤_, _<_};
+ghost use lib.ListN.{length, getD, take};
 ghost use Rattle.firing.specs.Replay.{ruleOf};
-ghost use Rattle.timing.specs.Rounding.{roundedRun};
+ghost use Rattle.timing.specs.Windows.{firesOf};
+ghost use Rattle.timing.specs.Schedule.{waitsBetween};
+ghost use Rattle.timing.specs.Rounding.{roundedRun, timetableRun};
 ghost use Rattle.timing.specs.Collect.{tokensIn, boundOf, Collects};
 
 // The upper bound of a window, in ticks: none where it is not closed.
@@ -65,6 +66,33 @@ pub fn rounded_run(run: Run) -> Run
     }
 }
 
+// The run of an order at given instants S0, S1, .., in whole ticks. It asks that they ascend and that none is over 64,000, which the earliest instants meet.
+pub fn timetable_run(order: Order, instants: [u64; 65]) -> Run
+    requires { ⌜ (order .count ≤ 64) × ((i : ℕ) → i < order .count → getD instants i 0 ≤ getD instants (suc i) 0)
+        × ((i : ℕ) → i ≤ order .count → getD instants i 0 ≤ 64000) ⌝ }
+    ensures { λ r. ⌜ r ≡ timetableRun (order .memory) (firesOf order) (waitsBetween (take (suc (order .count)) instants)) ⌝ }
+{
+    let none = Firing { wait: 0, fire: 0 };
+    let mut firings = [none; 64];
+    let memory = order.memory;
+    let count = order.count;
+    let mut i: usize = 0;
+    while i < count {
+        firings[i] = Firing {
+            wait: (instants[i + 1] - instants[i]) as u32,
+            fire: order.fires[i],
+        };
+        i += 1;
+    }
+    Run {
+        memory,
+        denominator: 1,
+        count,
+        firings,
+        rest: 0,
+    }
+}
+
 // The judgement of firing number n, of t, by its tokens alone.
 fn judge_tokens<'a>(
     take: &'a [u32],
@@ -114,7 +142,7 @@ fn index(number: u32) -> usize
 // What the tokens say of an order, and the window of each firing.
 pub fn collect(net: Net, order: Order) -> Collected
     requires { ⌜ (net .places ≤ 16) × (net .transitions ≤ 32) × (order .count ≤ 64) ⌝ }
-    ensures { λ r. ⌜ Collects net (ruleOf net (order .memory)) (firstOf (order .count) 0 (order .fires)) r ⌝ }
+    ensures { λ r. ⌜ Collects net (ruleOf net (order .memory)) (firesOf order) r ⌝ }
 {
     let places = net.places;
     let transitions = net.transitions;

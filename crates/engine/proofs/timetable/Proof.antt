@@ -1,0 +1,50 @@
+-- A refusal by the check is the answer; of an order that passes, the timetable.
+use mathlib.Core.Path.{sym, _∙_}
+use borrow.Author.Needs.{needs}
+use Rattle.engine.specs.Timetable.{timetableOf}
+use Rattle.engine.proofs.Outcome.{check-refused, check-passed}
+use Rattle.engine.proofs.timetable.Statement.{statement}
+use Rattle.engine.proofs.timetable.Tie as tie
+
+check-order-requires : tie.Need-check-order-requires
+check-order-requires c κs = search needs
+
+enum-known-c : tie.Need-enum-known-c
+enum-known-c c = search needs
+
+enum-told : tie.Need-enum-told
+enum-told c = search needs
+
+timetable-checked-requires : tie.Need-timetable-checked-requires
+timetable-checked-requires c κs =
+    let t = c .before in
+    sym (t .before .before .check-order .ensures) ∙ t .enum-told .given .1
+
+returns : tie.Need-returns
+returns c =
+    let k = c .before .before .before in
+    let a = k .before .before .args in
+    check-refused (timetableOf (a .net) (a .order)) (a .out .now) (sym (k .check-order .ensures) ∙ c .before .c .given .1)
+
+same-length : tie.Need-same-length
+same-length c = search needs
+
+returns-2 : tie.Need-returns-2
+returns-2 c =
+    let f = c .before .before in
+    let t = f .before .before in
+    let k = t .before .before in
+    let a = k .before .before .args in
+    check-passed (timetableOf (a .net) (a .order)) (sym (k .check-order .ensures) ∙ t .enum-told .given .1) (f .timetable-checked .ensures)
+
+pub timetable-spec : {M : Type 1} → statement M
+timetable-spec =
+    tie.close
+    (tie.spec
+    check-order-requires
+    enum-known-c
+    enum-told
+    timetable-checked-requires
+    returns
+    same-length
+    returns-2)
