@@ -96,18 +96,32 @@ fn change_at(s: &[u8], at: usize) -> Change {
     }
 }
 
+// Whether an operation has a run among its values, and whether it has an order.
+fn on_run(operation: Operation) -> bool {
+    match operation {
+        Operation::RunValue | Operation::ReplayValue | Operation::RoundValue => true,
+        _ => false,
+    }
+}
+
+fn on_order(operation: Operation) -> bool {
+    match operation {
+        Operation::OrderValue | Operation::TimetableValue => true,
+        _ => false,
+    }
+}
+
 // Whether an operation has a value with this field.
 fn has_field(operation: Operation, field: Field) -> bool {
     match field {
         Field::Unknown => false,
-        Field::Denominator | Field::Wait | Field::Rest => match operation {
-            Operation::RunValue | Operation::ReplayValue => true,
-            _ => false,
-        },
-        Field::Firings | Field::Fire => match operation {
-            Operation::RunValue | Operation::OrderValue | Operation::ReplayValue => true,
-            _ => false,
-        },
+        Field::Denominator | Field::Wait | Field::Rest => on_run(operation),
+        Field::Firings | Field::Fire => {
+            if on_run(operation) {
+                return true;
+            }
+            on_order(operation)
+        }
         _ => true,
     }
 }

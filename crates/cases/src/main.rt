@@ -122,4 +122,6 @@ fn run_file(name: &[u8]) {
 fn main() {
     run_file(b"cards");
     run_file(b"replay");
+    run_file(b"round");
+    run_file(b"timetable");
 }

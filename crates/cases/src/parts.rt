@@ -14,6 +14,10 @@ pub enum Operation {
     ReadOrder,
     Replay,
     ReplayValue,
+    Round,
+    RoundValue,
+    Timetable,
+    TimetableValue,
     Unknown,
 }
 
@@ -61,6 +65,18 @@ fn operation_at(s: &[u8], at: usize) -> Operation {
     if text::begins_at(s, at, b"replayvalue ") {
         return Operation::ReplayValue;
     }
+    if text::begins_at(s, at, b"round ") {
+        return Operation::Round;
+    }
+    if text::begins_at(s, at, b"roundvalue ") {
+        return Operation::RoundValue;
+    }
+    if text::begins_at(s, at, b"timetable ") {
+        return Operation::Timetable;
+    }
+    if text::begins_at(s, at, b"timetablevalue ") {
+        return Operation::TimetableValue;
+    }
     Operation::Unknown
 }
 
@@ -71,6 +87,8 @@ fn has_changes(operation: Operation) -> bool {
         | Operation::Run
         | Operation::Order
         | Operation::Replay
+        | Operation::Round
+        | Operation::Timetable
         | Operation::Unknown => false,
         _ => true,
     }

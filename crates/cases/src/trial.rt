@@ -9,6 +9,7 @@ use form::LineRead;
 use net::Net;
 use reply::Refusal;
 use reply::Reply;
+use run::Order;
 use run::Run;
 ghost use mathlib.Core.Path.{_≡_};
 ghost use lib.ListN.{length};
@@ -150,11 +151,12 @@ fn net_reply(
 fn of_run(operation: Operation, net: Net, timed: Run, out: &mut [u8]) -> Reply {
     match operation {
         Operation::ReplayValue => engine::replay(net, timed, out),
+        Operation::RoundValue => engine::round(net, timed, out),
         _ => cards::write_run(net, timed, out),
     }
 }
 
-// A net card and a run card read and changed as values; the run is written or replayed.
+// A net card and a run card read and changed as values.
 fn run_reply(operation: Operation, input: &[u8], changes: &[u8], out: &mut [u8]) -> Reply {
     let both = cards::read_run_cards(input);
     let read = both.read;
@@ -174,8 +176,16 @@ fn run_reply(operation: Operation, input: &[u8], changes: &[u8], out: &mut [u8])
     }
 }
 
-// A net card and an order card read, changed as values, and the order written.
-fn order_reply(input: &[u8], changes: &[u8], out: &mut [u8]) -> Reply {
+// What an operation on an order that was read and changed replies.
+fn of_order(operation: Operation, net: Net, untimed: Order, out: &mut [u8]) -> Reply {
+    match operation {
+        Operation::TimetableValue => engine::timetable(net, untimed, out),
+        _ => cards::write_order(net, untimed, out),
+    }
+}
+
+// A net card and an order card read and changed as values.
+fn order_reply(operation: Operation, input: &[u8], changes: &[u8], out: &mut [u8]) -> Reply {
     let both = cards::read_order_cards(input);
     let read = both.read;
     match read {
@@ -184,7 +194,12 @@ fn order_reply(input: &[u8], changes: &[u8], out: &mut [u8]) -> Reply {
             let net = both.net;
             let untimed = both.order;
             let net_value = change::changed_net(net, changes);
-            cards::write_order(net_value, change::changed_order(untimed, changes), out)
+            of_order(
+                operation,
+                net_value,
+                change::changed_order(untimed, changes),
+                out,
+            )
         }
     }
 }
@@ -198,11 +213,14 @@ fn reply_of(
     out: &mut [u8],
 ) -> Reply {
     match operation {
-        Operation::Run | Operation::RunValue | Operation::ReplayValue => {
-            run_reply(operation, input, changes, out)
-        }
         Operation::Replay => engine::replay_cards(input, out),
-        Operation::Order | Operation::OrderValue => order_reply(input, changes, out),
+        Operation::Round => engine::round_cards(input, out),
+        Operation::Timetable => engine::timetable_cards(input, out),
+        Operation::Run | Operation::RunValue | Operation::ReplayValue | Operation::RoundValue =>
+            run_reply(operation, input, changes, out),
+        Operation::Order | Operation::OrderValue | Operation::TimetableValue => {
+            order_reply(operation, input, changes, out)
+        }
         _ => net_reply(operation, input, changes, card, out),
     }
 }
