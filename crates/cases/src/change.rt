@@ -99,7 +99,10 @@ fn change_at(s: &[u8], at: usize) -> Change {
 // Whether an operation has a run among its values, and whether it has an order.
 fn on_run(operation: Operation) -> bool {
     match operation {
-        Operation::RunValue | Operation::ReplayValue | Operation::RoundValue => true,
+        Operation::RunValue
+        | Operation::ReplayValue
+        | Operation::RoundValue
+        | Operation::ProcessValue => true,
         _ => false,
     }
 }

@@ -124,4 +124,5 @@ fn main() {
     run_file(b"replay");
     run_file(b"round");
     run_file(b"timetable");
+    run_file(b"process");
 }

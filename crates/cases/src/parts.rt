@@ -18,6 +18,8 @@ pub enum Operation {
     RoundValue,
     Timetable,
     TimetableValue,
+    Process,
+    ProcessValue,
     Unknown,
 }
 
@@ -77,6 +79,12 @@ fn operation_at(s: &[u8], at: usize) -> Operation {
     if text::begins_at(s, at, b"timetablevalue ") {
         return Operation::TimetableValue;
     }
+    if text::begins_at(s, at, b"process ") {
+        return Operation::Process;
+    }
+    if text::begins_at(s, at, b"processvalue ") {
+        return Operation::ProcessValue;
+    }
     Operation::Unknown
 }
 
@@ -89,6 +97,7 @@ fn has_changes(operation: Operation) -> bool {
         | Operation::Replay
         | Operation::Round
         | Operation::Timetable
+        | Operation::Process
         | Operation::Unknown => false,
         _ => true,
     }

@@ -152,6 +152,7 @@ fn of_run(operation: Operation, net: Net, timed: Run, out: &mut [u8]) -> Reply {
     match operation {
         Operation::ReplayValue => engine::replay(net, timed, out),
         Operation::RoundValue => engine::round(net, timed, out),
+        Operation::ProcessValue => engine::process(net, timed, out),
         _ => cards::write_run(net, timed, out),
     }
 }
@@ -216,8 +217,12 @@ fn reply_of(
         Operation::Replay => engine::replay_cards(input, out),
         Operation::Round => engine::round_cards(input, out),
         Operation::Timetable => engine::timetable_cards(input, out),
-        Operation::Run | Operation::RunValue | Operation::ReplayValue | Operation::RoundValue =>
-            run_reply(operation, input, changes, out),
+        Operation::Process => engine::process_cards(input, out),
+        Operation::Run
+        | Operation::RunValue
+        | Operation::ReplayValue
+        | Operation::RoundValue
+        | Operation::ProcessValue => run_reply(operation, input, changes, out),
         Operation::Order | Operation::OrderValue | Operation::TimetableValue => {
             order_reply(operation, input, changes, out)
         }

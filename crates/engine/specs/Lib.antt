@@ -1,6 +1,7 @@
 pub mod Claims
 pub mod Keys
 pub mod Operation
+pub mod Process
 pub mod Replay
 pub mod Round
 pub mod Timetable

@@ -22,6 +22,7 @@ ghost use Rattle.cards.specs.Cards.{runChecked, orderChecked};
 ghost use Rattle.engine.specs.Keys.{clockKey, offLine};
 ghost use Rattle.engine.specs.Replay.{clocksText, endText, replayOf, replayValues, replayCards};
 ghost use Rattle.engine.specs.Round.{roundOf, roundValues, roundCards};
+ghost use Rattle.engine.specs.Process.{processOf, processValues, processCards};
 ghost use Rattle.engine.specs.Timetable.{timetableOf, timetableValues, timetableCards};
 
 // The line of a clock written to a position; the position behind it.
@@ -215,6 +216,50 @@ pub fn timetable_cards(input: &[u8], out: &mut [u8]) -> Reply
             let card = i.net;
             let order = i.order;
             timetable_checked(card, order, out)
+        }
+    }
+}
+
+// The process of a run that passed its check.
+fn process_checked(net: Net, run: Run, out: &mut [u8]) -> Reply
+    requires { ⌜ runChecked net run ≡ Passed ⌝ }
+    ensures { λ r. ⌜ Responded (processOf net run) (now (out .entry)) r (now (out .exit)) ⌝ }
+{
+    let p = firing::play_run(net, run);
+    let c = p.checked;
+    match c {
+        Checked::Refused(r) => Reply::Refused(r),
+        Checked::Passed => {
+            let mut text = [0u8; 22001];
+            let n = causal::put_process(&mut text, 0, net, run);
+            reply::respond(&text[..n], out)
+        }
+    }
+}
+
+// Derives the causal process of a run of a net, both handed over as values.
+pub fn process(net: Net, run: Run, out: &mut [u8]) -> Reply
+    ensures { λ r. ⌜ Responded (processValues net run) (now (out .entry)) r (now (out .exit)) ⌝ }
+{
+    let c = cards::check_run(net, run);
+    match c {
+        Checked::Refused(r) => Reply::Refused(r),
+        Checked::Passed => process_checked(net, run, out),
+    }
+}
+
+// Derives the causal process of a run: a net card and, right behind it, a run card.
+pub fn process_cards(input: &[u8], out: &mut [u8]) -> Reply
+    ensures { λ r. ⌜ Responded (processCards (now (input .entry))) (now (out .entry)) r (now (out .exit)) ⌝ }
+{
+    let i = cards::read_run_cards(input);
+    let read = i.read;
+    match read {
+        LineRead::Stopped(r) => Reply::Refused(r),
+        LineRead::Next(_) => {
+            let card = i.net;
+            let timed = i.run;
+            process_checked(card, timed, out)
         }
     }
 }

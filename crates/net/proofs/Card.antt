@@ -253,6 +253,16 @@ net-transitions n p =
     ranged-within 1 32 (n .transitions) 2
     (also-first (ranged 1 32 (n .transitions) 2) _ (also-second (ranged 1 16 (n .places) 1) _ p))
 
+-- its start
+pub net-start : (n : Net) → netCard .check n 1 ≡ Passed → (p : ℕ) → p < n .places → getD (n .start) p 0 ≤ 255
+net-start n e p h =
+    let listed = firstOf (n .places) 0 (n .start) in
+    let behind = also-second (ranged 1 32 (n .transitions) 2) _ (also-second (ranged 1 16 (n .places) 1) _ e) in
+    let each =
+    checks-each (keyed startKey (number (ranged 0 255))) (λ (x : ℕ). x ≤ 255) (λ x line q. ranged-within 0 255 x line q .1) listed _
+    (also-first (starts (n .places) .check (n .start) 3) _ behind) in
+    rw getD-first at (each-at (λ (x : ℕ). x ≤ 255) 0 listed each p (omega (arith, length-first (n .places) 0 (n .start))))
+
 -- and the lower bounds of its transitions
 pub net-earliest : (n : Net) → netCard .check n 1 ≡ Passed → (t : ℕ) → t < n .transitions → getD (n .table) t noTransition .earliest ≤ 1000
 net-earliest n p t h =

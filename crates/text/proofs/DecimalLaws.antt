@@ -78,3 +78,9 @@ length-decimal-small n h = omega (arith, decimal-width n, width-least n (width 1
 -- with its separator no number takes more than 21 bytes
 pub field-short : (n : ℕ) (last : Bool) → length (field n last) ≤ 21
 field-short n last = omega (arith, length-append (decimal n) (separator last ∷ []), decimal-width n, width-most 19 n)
+
+-- a number below 10 ^ w has at most w digits
+pub digits-few : (w n : ℕ) → 1 ≤ w → w ≤ 20 → n < 10 ^ w → length (decimal n) ≤ w
+digits-few w n o m h =
+    let p : 10 ^ w ≤ 10 ^ 20 = pow-le-pow-right {n = 10} (lit< tt) m in
+    omega (arith, decimal-width n, width-least n (width 19 n) w (width-right 19 n (omega arith)) h o)

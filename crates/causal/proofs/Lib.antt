@@ -1,0 +1,11 @@
+pub mod CountSlots
+pub mod EventLaws
+pub mod FreeLoop
+pub mod LineLoop
+pub mod Listing
+pub mod Longest
+pub mod Neighbours
+pub mod ProcessLoop
+pub mod Queues
+pub mod TakeLoop
+pub mod Tokens

@@ -1,0 +1,75 @@
+-- The loop stores the weight of place after place in the new producer's slot (`Giving`).
+use Prim.Native.Nat.{_-_}
+use mathlib.Core.Path.{sym, _∙_}
+use borrow.Author.Needs.{needs}
+use Rattle.causal.proofs.CountSlots.{Giving, giving-start, giving-more, giving-done}
+use Rattle.causal.proofs.give.Statement.{statement}
+use Rattle.causal.proofs.give.Tie as tie
+
+abbrev Inv-loop : tie.InvT-loop
+Inv-loop counts₀ weights row places producer p₀ counts p = Giving counts₀ weights row places producer counts p
+
+abbrev μ-loop : tie.MeasureT-loop
+μ-loop counts₀ weights row places producer p₀ counts p = places - p
+
+loop-holds : tie.Need-loop-holds Inv-loop μ-loop
+loop-holds c = giving-start (c .pre .2)
+
+add-counts : tie.Need-add-counts Inv-loop μ-loop
+add-counts c = search needs
+
+mul-counts : tie.Need-mul-counts Inv-loop μ-loop
+mul-counts c = search needs
+
+shared-slice-read-counts : tie.Need-shared-slice-read-counts Inv-loop μ-loop
+shared-slice-read-counts c = search needs
+
+mul-counts-2 : tie.Need-mul-counts-2 Inv-loop μ-loop
+mul-counts-2 c = search needs
+
+add-counts-2 : tie.Need-add-counts-2 Inv-loop μ-loop
+add-counts-2 c = search needs
+
+mul-counts-3 : tie.Need-mul-counts-3 Inv-loop μ-loop
+mul-counts-3 c = search needs
+
+slice-write-counts : tie.Need-slice-write-counts Inv-loop μ-loop
+slice-write-counts c = search needs
+
+add-p : tie.Need-add-p Inv-loop μ-loop
+add-p c = search needs
+
+loop-less : tie.Need-loop-less Inv-loop μ-loop
+loop-less c = search needs
+
+loop-again : tie.Need-loop-again Inv-loop μ-loop
+loop-again c =
+    let l = c .before .before in
+    let b = l .before in
+    giving-more (l .loop .inv) (b .pre .0) (b .pre .1) (c .before .loop-test .taken)
+
+same-length : tie.Need-same-length Inv-loop μ-loop
+same-length c = c .before .loop .inv .size ∙ sym (c .before .before .pre .2)
+
+returns : tie.Need-returns Inv-loop μ-loop
+returns c = (c .before .loop .inv .size, giving-done (c .before .loop .inv) (c .loop-test .left))
+
+pub give-spec : {M : Type 1} → statement M
+give-spec =
+    tie.close
+    (tie.spec
+    Inv-loop
+    μ-loop
+    loop-holds
+    add-counts
+    mul-counts
+    shared-slice-read-counts
+    mul-counts-2
+    add-counts-2
+    mul-counts-3
+    slice-write-counts
+    add-p
+    loop-less
+    loop-again
+    same-length
+    returns)

@@ -1,0 +1,58 @@
+-- What is claimed of a causal process beyond its definition: counts of tokens by place and producer.
+use Prim.Native.Nat.{ℕ, zero, suc, _+_, _≤_, _<_}
+use mathlib.Core.Path.{_≡_}
+use mathlib.Core.Bool.{cond, _&&_}
+use mathlib.Core.List.{List, [], _∷_}
+use mathlib.Core.Logic.{_⊎_}
+use lib.Dec.{eqb}
+use lib.ListN.{getD}
+use Rattle.laws.specs.Each.{Each}
+use Rattle.net.specs.declared.Net.{Net}
+use Rattle.firing.specs.Semantics.{gives}
+use Rattle.causal.specs.Process.{Item, Event, events}
+
+-- the tokens of place p among items
+unfoldable pub tokensOf : ℕ → List Item → ℕ
+tokensOf p [] = 0
+tokensOf p (x ∷ items) = cond (eqb (x .place) p) (x .count) 0 + tokensOf p items
+
+-- those of them that producer i gave
+unfoldable pub producedBy : ℕ → ℕ → List Item → ℕ
+producedBy i p [] = 0
+producedBy i p (x ∷ items) = cond (eqb (x .place) p && eqb (x .producer) i) (x .count) 0 + producedBy i p items
+
+-- the tokens of producer i and place p that firings take, all together
+unfoldable pub takenOf : ℕ → ℕ → List Event → ℕ
+takenOf i p [] = 0
+takenOf i p (e ∷ later) = producedBy i p (e .from) + takenOf i p later
+
+-- the tokens that producer i gives to place p: those of the start, or of firing i
+abbrev pub givenBy : Net → List ℕ → ℕ → ℕ → ℕ
+givenBy net order zero p = getD (net .start) p 0
+givenBy net order (suc i) p = gives net (getD order i 0) p
+
+-- the items that a firing takes, with i firings before it
+abbrev pub noEvent : Event
+noEvent = record { fire = 0; from = [] }
+
+abbrev pub fromAt : Net → List ℕ → ℕ → List Item
+fromAt net order i = getD (events net order) i noEvent .from
+
+-- places ascend, and producers within a place
+abbrev pub Before : Item → Item → Type 0
+Before x y = (x .place < y .place) ⊎ ((x .place ≡ y .place) × (x .producer < y .producer))
+
+pub data Ascending : List Item → Type 0 where
+  none : Ascending []
+  one : {x : Item} {items : List Item} → Each (Before x) items → Ascending items → Ascending (x ∷ items)
+
+-- an item of a firing with k firings before it: some tokens of a place, given by the start or by one of those firings
+pub record Produced (net : Net) (order : List ℕ) (k : ℕ) (x : Item) : Type 0 where
+  pub in-net : x .place < net .places
+  pub earlier : x .producer ≤ k
+  pub some : 0 < x .count
+  pub given : x .count ≤ givenBy net order (x .producer) (x .place)
+
+-- where both are of one place, the tokens of x came no later than those of y
+abbrev pub NotAfter : Item → Item → Type 0
+NotAfter x y = x .place ≡ y .place → x .producer ≤ y .producer

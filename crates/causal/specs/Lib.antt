@@ -1,0 +1,6 @@
+pub mod Claims
+pub mod Counts
+pub mod Free
+pub mod Keys
+pub mod Print
+pub mod Process

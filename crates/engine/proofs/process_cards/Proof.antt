@@ -1,0 +1,52 @@
+-- A refusal by the reading is the answer; cards that were read pass their checks, and the answer is the rounding.
+use borrow.Author.Needs.{needs}
+use Rattle.cards.proofs.Cards.{run-cards-passed, run-input-stopped, run-input-found}
+use Rattle.engine.specs.Process.{processOf}
+use Rattle.engine.proofs.Outcome.{cards-refused, cards-found}
+use Rattle.engine.proofs.process_cards.Statement.{statement}
+use Rattle.engine.proofs.process_cards.Tie as tie
+
+read-run-cards-requires : tie.Need-read-run-cards-requires
+read-run-cards-requires c κs = search needs
+
+enum-known-read : tie.Need-enum-known-read
+enum-known-read c = search needs
+
+enum-told : tie.Need-enum-told
+enum-told c = search needs
+
+process-checked-requires : tie.Need-process-checked-requires
+process-checked-requires c κs =
+    let t = c .before .before .before in
+    let k = t .before .before in
+    let s = k .before .before .before .args .input .now in
+    run-cards-passed s (run-input-found s (k .read-run-cards .ensures) (t .enum-told .given .1))
+
+returns : tie.Need-returns
+returns c =
+    let k = c .before .before .before in
+    let a = k .before .before .before .args in
+    cards-refused (λ v. processOf (v .0) (v .1)) (a .out .now) (run-input-stopped (a .input .now) (k .read-run-cards .ensures) (c .before .read .given .1))
+
+same-length : tie.Need-same-length
+same-length c = search needs
+
+returns-2 : tie.Need-returns-2
+returns-2 c =
+    let f = c .before .before in
+    let t = f .before .before .before .before in
+    let k = t .before .before in
+    let a = k .before .before .before .args in
+    cards-found (λ v. processOf (v .0) (v .1)) (run-input-found (a .input .now) (k .read-run-cards .ensures) (t .enum-told .given .1)) (f .process-checked .ensures)
+
+pub process-cards-spec : {M : Type 1} → statement M
+process-cards-spec =
+    tie.close
+    (tie.spec
+    read-run-cards-requires
+    enum-known-read
+    enum-told
+    process-checked-requires
+    returns
+    same-length
+    returns-2)
