@@ -1,4 +1,4 @@
-// Derives the causal process of a run: reads a net card and a run card from standard input, and prints the process or why the run is refused.
+// Derives the causal process of a run: reads a net card and a run card, prints the process or why the run is refused.
 use libc::STDIN_FILENO;
 
 fn process(s: &[u8]) {

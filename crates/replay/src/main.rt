@@ -1,4 +1,4 @@
-// Replays a run: reads a net card and a run card from standard input, and prints the end of the run or why it is refused.
+// Replays a run: reads a net card and a run card, prints the end of the run or why it is refused.
 use libc::STDIN_FILENO;
 
 fn replay(s: &[u8]) {

@@ -1,4 +1,4 @@
-// Rounds a run to whole ticks: reads a net card and a run card from standard input, and prints the card of the rounded run or why the run is refused.
+// Rounds a run to whole ticks: reads a net card and a run card, prints the rounded run as a card or why the run is refused.
 use libc::STDIN_FILENO;
 
 fn round(s: &[u8]) {

@@ -1,5 +1,4 @@
-// Finds the earliest timetable of a firing order: reads a net card and an order card from standard input, and prints the timetable as a run card or why
-// there is none.
+// Finds the earliest timetable of a firing order: reads a net card and an order card, prints a run card or why there is none.
 use libc::STDIN_FILENO;
 
 fn timetable(s: &[u8]) {
