@@ -5,3 +5,5 @@ pub mod Rounding
 pub mod Scheduling
 pub mod Answers
 pub mod Demands
+pub mod Places
+pub mod Lengths

@@ -1,7 +1,7 @@
 -- What a reading that found something, or a check that passed, says of its parts: a refusal of any part would be the refusal of the whole.
 use Prim.Native.Nat.{ℕ, _+_}
 use native.Mathlib.Omega.{arith}
-use mathlib.Core.Path.{_≡_, refl}
+use mathlib.Core.Path.{_≡_, refl, ap}
 use mathlib.Core.Bool.{Bool, true, false, cond}
 use mathlib.Core.List.{List, [], _∷_}
 use Rattle.laws.specs.Each.{Each}
@@ -23,6 +23,15 @@ not-both e = let z : _≡_ {A = ℕ} 0 1 = cc in omega arith
 pub then-found : {A B : Type 0} (m : Found A) (more : A → ℕ → Found B) {b : B} {end : ℕ} → andThen m more ≡ found b end → Went m more b end
 then-found (found a next) more e = record { value = a; place = next; first = refl; then = e }
 then-found (refused r) more e = absurd (not-both e)
+
+pub refused-same : {A : Type 0} {r q : Refusal} → _≡_ {A = Found A} (refused r) (refused q) → r ≡ q
+refused-same e = cc
+
+-- a reading in two steps that refuses: the first step refuses, or the second behind what the first found
+pub then-refused : {A B : Type 0} {P : Type 0} {r : Refusal} (m : Found A) (more : A → ℕ → Found B) → (m ≡ refused r → P)
+    → ((a : A) (next : ℕ) → m ≡ found a next → more a next ≡ refused r → P) → andThen m more ≡ refused r → P
+then-refused (found a next) more first then e = then a next refl e
+then-refused (refused q) more first then e = first (ap refused (refused-same e))
 
 -- two readings whose second steps agree where the first found something
 pub then-same : {A B : Type 0} (m : Found A) (more more′ : A → ℕ → Found B) → ((a : A) (next : ℕ) → m ≡ found a next → more a next ≡ more′ a next)
@@ -76,3 +85,11 @@ judged-found (Refused r) a next e = absurd (not-both e)
 pub test-passed : (t : Bool) (r : Refusal) → cond t Passed (Refused r) ≡ Passed → t ≡ true
 test-passed true r e = refl
 test-passed false r e = cc
+
+pub test-refused : (t : Bool) (r : Refusal) {q : Refusal} → cond t Passed (Refused r) ≡ Refused q → r ≡ q
+test-refused true r e = let z : _≡_ {A = ℕ} 0 1 = cc in absurd (omega arith)
+test-refused false r e = cc
+
+pub judged-refused : {A : Type 0} (c : Checked) (a : A) (next : ℕ) {r : Refusal} → judged c a next ≡ refused r → c ≡ Refused r
+judged-refused Passed a next e = let z : _≡_ {A = ℕ} 0 1 = cc in absurd (omega arith)
+judged-refused (Refused q) a next e = cc

@@ -6,3 +6,4 @@ pub mod Items
 pub mod Lines
 pub mod Loops
 pub mod NumberLines
+pub mod Places

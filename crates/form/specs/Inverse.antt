@@ -1,10 +1,12 @@
--- What makes a form a format: its reader and its writer are inverse, and its reader looks at a bounded part of the input alone.
-use Prim.Native.Nat.{ℕ, _+_, _≤_}
+-- What makes a form a format: its reader and its writer are inverse, its reader looks at a bounded part of the input alone, and a refusal names a line.
+use Prim.Native.Nat.{ℕ, _+_, _≤_, _<_}
 use mathlib.Core.Path.{_≡_}
 use mathlib.Core.List.{List, _++_}
 use lib.ListN.{length, take, drop}
+use Rattle.reply.specs.declared.Refusal.{Refusal}
 use Rattle.reply.specs.declared.Checked.the-variants.{Passed}
-use Rattle.form.specs.Form.{found, Form}
+use Rattle.reply.specs.Refusal.{positionOf}
+use Rattle.form.specs.Form.{found, refused, Form}
 
 -- a value that was read: its text stands there, it passes the check, and it is clean
 pub record WasRead {A : Type 0} (f : Form A) (a : A) (s : List ℕ) (at next line : ℕ) : Type 0 where
@@ -30,3 +32,13 @@ pub record Settled {A : Type 0} (f : Form A) : Type 0 where
 pub record Reaches {A : Type 0} (f : Form A) (reach : ℕ) : Type 0 where
   pub near : (a : A) (s : List ℕ) (at next line : ℕ) → f .read s at line ≡ found a next → next ≤ at + reach
   pub prefix : (s : List ℕ) (k at line : ℕ) → at + reach ≤ k → f .read (take k s) at line ≡ f .read s at line
+
+-- a refusal that names one of n lines, of which this is the first
+pub record Among (line n : ℕ) (r : Refusal) : Type 0 where
+  pub from : line ≤ positionOf r
+  pub below : positionOf r < line + n
+
+-- each refusal names one of n lines from the first on, and what is read has no more
+pub record Placed {A : Type 0} (f : Form A) (n : ℕ) : Type 0 where
+  pub named : (r : Refusal) (s : List ℕ) (at line : ℕ) → f .read s at line ≡ refused r → Among line n r
+  pub few : (a : A) (s : List ℕ) (at next line : ℕ) → f .read s at line ≡ found a next → f .lines a ≤ n

@@ -1,8 +1,8 @@
 -- A list in an array: its first elements count, and the slots behind them hold a filler.
 use Prim.Native.Nat.{ℕ, zero, suc, _-_, _<_}
 use native.Mathlib.Nat.{not-suc-le-zero, le-of-suc-le-suc}
-use mathlib.Core.List.{List, [], _∷_, _++_, map}
-use mathlib.Core.Path.{_≡_, refl, ap, _∙_}
+use mathlib.Core.List.{List, [], _∷_, _++_, map, append-nil}
+use mathlib.Core.Path.{_≡_, refl, sym, ap, _∙_}
 use lib.ListN.{length, getD, replicate, length-map, List·getD-map}
 
 module _ {ℓ} {A : Type ℓ} where
@@ -47,6 +47,10 @@ module _ {ℓ} {A : Type ℓ} where
   unfolding firstOf
   first-append d [] m = refl
   first-append d (a ∷ l) m = ap (λ (k : List A). a ∷ k) (first-append d l m)
+
+  -- a list with no slots behind it
+  pub first-whole : (n : ℕ) (d : A) (l : List A) → length l ≡ n → firstOf n d l ≡ l
+  first-whole n d l e = rw (← e) (ap (firstOf (length l) d) (sym (append-nil l)) ∙ first-append d l [])
 
   pub first-pad : (n size : ℕ) (d : A) (l : List A) → length l ≡ n → firstOf n d (padTo size d l) ≡ l
   first-pad n size d l e = rw (← e) (first-append d l (replicate (size - length l) d))

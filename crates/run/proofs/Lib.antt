@@ -1,5 +1,6 @@
 pub mod Card
 pub mod Check
+pub mod Places
 pub mod Read
 pub mod Same
 pub mod Write

@@ -19,3 +19,4 @@ pub mod Rounded
 pub mod RoundLoop
 pub mod CollectLoop
 pub mod TimetableLoop
+pub mod Places
