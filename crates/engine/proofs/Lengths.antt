@@ -1,4 +1,4 @@
--- Every answer of an operation is short: a replay's end is, and the others are cards of runs that pass their check. So what is told of an operation, to
+-- Every answer of an operation is short: a replay's end is, cards of runs that pass their check are, and so is a process. So what is told of an operation, to
 -- whatever output, is small.
 use Prim.Native.Nat.{ℕ, _≤_}
 use native.Mathlib.Omega.{arith}
@@ -20,18 +20,23 @@ use Rattle.run.specs.declared.Run.{Run}
 use Rattle.run.specs.Run.{runCard}
 use Rattle.firing.specs.declared.State.{State}
 use Rattle.firing.specs.Semantics.{Restart}
-use Rattle.firing.specs.Replay.{ruleOf, replay}
+use Rattle.firing.specs.Replay.{ruleOf, firingsOf, replay}
 use Rattle.firing.proofs.Sizes.{Sized, replay-sized}
+use Rattle.timing.specs.Windows.{orderOf}
+use Rattle.causal.specs.Print.{processText}
 use Rattle.cards.specs.Cards.{runChecked, runCards, orderCards}
 use Rattle.cards.proofs.Cards.{run-counts, run-short, run-written-again, run-cards-passed, order-cards-passed}
 use Rattle.engine.specs.Operation.{onceRead}
 use Rattle.engine.specs.Replay.{endText, ended, replayCards}
 use Rattle.engine.specs.Round.{roundCards}
+use Rattle.engine.specs.Process.{processCards}
 use Rattle.engine.specs.Timetable.{timetableCards}
 use Rattle.engine.specs.Claims.{WholeTickRun}
 use Rattle.engine.proofs.End.{counted, end-fits}
+use Rattle.engine.proofs.Answers.{once-answer}
+use Rattle.engine.proofs.Causality.{accepted-tokens, process-fits}
 use Rattle.engine.proofs.Demands.{round-whole, timetable-earliest}
-use Rattle.engine.proofs.Places.{replay-placed, round-placed, timetable-placed}
+use Rattle.engine.proofs.Places.{replay-placed, round-placed, process-placed, timetable-placed}
 
 -- an operation on cards that answers has read them
 once-read : {A : Type 0} {P : Type 0} {bytes : List ℕ} (f : Found A) (o : A → Outcome) → ((a : A) (next : ℕ) → f ≡ found a next → o a ≡ answer bytes → P)
@@ -78,6 +83,15 @@ timetable-short s bytes =
     let (r, whole, early) = timetable-earliest (v .0) rule (v .1) (order-cards-passed s e) bytes q in
     card-short (v .0) rule bytes r whole)
 
+-- ---- the process
+pub process-short : (s bytes : List ℕ) → processCards s ≡ answer bytes → length bytes ≤ 22001
+process-short s bytes =
+    once-read (runCards s) _ (λ v next e q.
+    let c = replay (v .0) (ruleOf (v .0) (v .1 .memory)) (v .1) .checked in
+    let (accepted, text) = once-answer c (answer (processText (v .0) (orderOf (firingsOf (v .1))))) bytes .0 q in
+    let same : processText (v .0) (orderOf (firingsOf (v .1))) ≡ bytes = cc in
+    rw (← same) (omega (arith, process-fits (v .0) (v .1) (run-cards-passed s e) (accepted-tokens (v .0) (v .1) accepted))))
+
 -- ---- what is told
 module _ (s : List ℕ) where
   pub replay-bounds : Bounds (replayCards s) 1280 147
@@ -88,6 +102,9 @@ module _ (s : List ℕ) where
 
   pub timetable-bounds : Bounds (timetableCards s) 2048 147
   timetable-bounds = record { short = timetable-short s; placed = timetable-placed s }
+
+  pub process-bounds : Bounds (processCards s) 22001 147
+  process-bounds = record { short = process-short s; placed = process-placed s }
 
   module _ (out : List ℕ) where
     pub replay-written : (n : ℕ) → replyTo (replayCards s) out ≡ Written n → n ≤ 1280
@@ -107,3 +124,9 @@ module _ (s : List ℕ) where
 
     pub timetable-refused : (r : Refusal) → replyTo (timetableCards s) out ≡ Refused r → positionOf r ≤ 147
     timetable-refused = refused-placed (timetableCards s) timetable-bounds out
+
+    pub process-written : (n : ℕ) → replyTo (processCards s) out ≡ Written n → n ≤ 22001
+    process-written = written-short (processCards s) process-bounds out
+
+    pub process-refused : (r : Refusal) → replyTo (processCards s) out ≡ Refused r → positionOf r ≤ 147
+    process-refused = refused-placed (processCards s) process-bounds out

@@ -26,6 +26,7 @@ use Rattle.cards.proofs.Places.{run-cards-placed, order-cards-placed}
 use Rattle.engine.specs.Operation.{onceChecked, onceRead}
 use Rattle.engine.specs.Replay.{ended, replayCards}
 use Rattle.engine.specs.Round.{roundCards}
+use Rattle.engine.specs.Process.{processCards}
 use Rattle.engine.specs.Timetable.{timetableBy, timetableCards}
 use Rattle.engine.proofs.Answers.{schedule-refusal}
 
@@ -35,7 +36,7 @@ once-refused : {A : Type 0} {P : Type 0} {r : Refusal} (f : Found A) (o : A → 
 once-refused (found a next) o first then e = then a next refl e
 once-refused (refused q) o first then e = first (cc)
 
--- the work of a replay and of a rounding refuses what the replay refuses
+-- the work of a replay, of a rounding and of a process refuses what the replay refuses
 ended-refused : (net : Net) (c : Checked) (st : State) (r : Refusal) → ended net c st ≡ refusal r → c ≡ checked.Refused r
 ended-refused net checked.Passed st r e = let z : _≡_ {A = ℕ} 0 1 = cc in absurd (omega arith)
 ended-refused net (checked.Refused q) st r e = cc
@@ -63,6 +64,11 @@ replay-placed s r =
 
 pub round-placed : (s : List ℕ) (r : Refusal) → roundCards s ≡ refusal r → positionOf r ≤ 147
 round-placed s r =
+    once-refused (runCards s) _ (λ e. omega (arith, run-cards-placed s e .below))
+    (λ v next e q. run-placed (v .0) (ruleOf (v .0) (v .1 .memory)) (v .1) r (run-cards-passed s e) (rounded-refused _ _ r q))
+
+pub process-placed : (s : List ℕ) (r : Refusal) → processCards s ≡ refusal r → positionOf r ≤ 147
+process-placed s r =
     once-refused (runCards s) _ (λ e. omega (arith, run-cards-placed s e .below))
     (λ v next e q. run-placed (v .0) (ruleOf (v .0) (v .1 .memory)) (v .1) r (run-cards-passed s e) (rounded-refused _ _ r q))
 
