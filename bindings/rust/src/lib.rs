@@ -1,0 +1,154 @@
+//! Timed runs of weak time Petri nets.
+//!
+//! Each operation reads a net card and, right behind it, a run card ([`timetable`]: an order card) from its input, and writes its answer to the front
+//! of the output. Nothing is asked of the input; a refusal alters no byte of the output.
+
+use std::fmt;
+
+mod ffi {
+    extern "C" {
+        pub fn tpn_replay(input: *const u8, input_length: usize, output: *mut u8, output_length: usize) -> i64;
+        pub fn tpn_round(input: *const u8, input_length: usize, output: *mut u8, output_length: usize) -> i64;
+        pub fn tpn_timetable(input: *const u8, input_length: usize, output: *mut u8, output_length: usize) -> i64;
+        pub fn tpn_process(input: *const u8, input_length: usize, output: *mut u8, output_length: usize) -> i64;
+    }
+}
+
+/// Outputs of these sizes are never too short.
+pub const REPLAY_MAX: usize = 1280;
+pub const ROUND_MAX: usize = 2048;
+pub const TIMETABLE_MAX: usize = 2048;
+pub const PROCESS_MAX: usize = 22001;
+
+/// What a refusal means; the discriminant is its number.
+#[derive(Clone, Copy, Debug, PartialEq, Eq, Hash)]
+pub enum Meaning {
+    Malformed = 1,
+    OutOfRange = 2,
+    LatestBelowEarliest = 3,
+    NoSuchTransition = 4,
+    NotEnabled = 5,
+    TooManyTokens = 6,
+    OutsideInterval = 7,
+    Untimable = 8,
+    OutputTooShort = 9,
+}
+
+/// Why there is no answer.
+#[derive(Clone, Copy, Debug, PartialEq, Eq, Hash)]
+pub struct Refusal {
+    pub meaning: Meaning,
+    /// The line within its card, from 1, for the first four meanings; the firing, from 1, for the next four; otherwise 0.
+    pub place: u16,
+}
+
+impl Refusal {
+    /// The refusal's number, 1 to 9.
+    pub fn number(self) -> u8 {
+        self.meaning as u8
+    }
+}
+
+impl fmt::Display for Refusal {
+    fn fmt(&self, f: &mut fmt::Formatter<'_>) -> fmt::Result {
+        let place = self.place;
+        match self.meaning {
+            Meaning::Malformed => write!(f, "line {place} of a card is missing, out of order or malformed, or bytes follow the card"),
+            Meaning::OutOfRange => write!(f, "line {place} of a card has a number outside its range"),
+            Meaning::LatestBelowEarliest => write!(f, "line {place} of the net card has a latest below the earliest"),
+            Meaning::NoSuchTransition => write!(f, "line {place} of a card fires a transition that is not in the net"),
+            Meaning::NotEnabled => write!(f, "firing {place}: the transition is not enabled"),
+            Meaning::TooManyTokens => write!(f, "firing {place}: a place would pass 255 tokens"),
+            Meaning::OutsideInterval => write!(f, "firing {place}: the clock is outside the interval"),
+            Meaning::Untimable => write!(f, "the first {place} firings have no timing"),
+            Meaning::OutputTooShort => write!(f, "the output is shorter than the answer"),
+        }
+    }
+}
+
+impl std::error::Error for Refusal {}
+
+type Operation = unsafe extern "C" fn(*const u8, usize, *mut u8, usize) -> i64;
+
+fn meaning(number: i64) -> Meaning {
+    match number {
+        1 => Meaning::Malformed,
+        2 => Meaning::OutOfRange,
+        3 => Meaning::LatestBelowEarliest,
+        4 => Meaning::NoSuchTransition,
+        5 => Meaning::NotEnabled,
+        6 => Meaning::TooManyTokens,
+        7 => Meaning::OutsideInterval,
+        8 => Meaning::Untimable,
+        _ => Meaning::OutputTooShort,
+    }
+}
+
+fn call(operation: Operation, input: &[u8], output: &mut [u8]) -> Result<usize, Refusal> {
+    // SAFETY: both slices are valid for their lengths and do not overlap; the operation asks for nothing else.
+    let result = unsafe { operation(input.as_ptr(), input.len(), output.as_mut_ptr(), output.len()) };
+    if result >= 0 {
+        return Ok(result as usize);
+    }
+    Err(Refusal {
+        meaning: meaning(-result / 65536),
+        place: (-result % 65536) as u16,
+    })
+}
+
+/// Replays a run: its end marking and its clocks. The number of bytes written to `output`.
+pub fn replay(input: &[u8], output: &mut [u8]) -> Result<usize, Refusal> {
+    call(ffi::tpn_replay, input, output)
+}
+
+/// Rounds a run to whole ticks: the card of the rounded run.
+pub fn round(input: &[u8], output: &mut [u8]) -> Result<usize, Refusal> {
+    call(ffi::tpn_round, input, output)
+}
+
+/// Finds the earliest timetable of a firing order: the card of a run.
+pub fn timetable(input: &[u8], output: &mut [u8]) -> Result<usize, Refusal> {
+    call(ffi::tpn_timetable, input, output)
+}
+
+/// Derives the causal process of a run.
+pub fn process(input: &[u8], output: &mut [u8]) -> Result<usize, Refusal> {
+    call(ffi::tpn_process, input, output)
+}
+
+#[cfg(test)]
+mod tests {
+    use super::*;
+
+    const NET_A: &[u8] = b"places=2\ntransitions=2\nstart=1\nstart=1\nearliest=1\nlatest=2\ntake=1,0\ngive=1,0\nearliest=3\nlatest=4\ntake=1,1\ngive=0,0\n";
+
+    fn input(card: &[u8]) -> Vec<u8> {
+        [NET_A, card].concat()
+    }
+
+    #[test]
+    fn answers() {
+        let mut out = [7u8; TIMETABLE_MAX];
+        let n = timetable(&input(b"memory=atomic\nfirings=1\nfire=0\n"), &mut out).unwrap();
+        assert_eq!(&out[..n], b"memory=atomic\ndenominator=1\nfirings=1\nwait=1\nfire=0\nrest=0\n");
+        assert!(out[n..].iter().all(|b| *b == 7));
+    }
+
+    #[test]
+    fn refusals() {
+        let mut out = [7u8; 16];
+        let late = timetable(&input(b"memory=atomic\nfirings=2\nfire=1\nfire=0\n"), &mut out).unwrap_err();
+        assert_eq!((late.meaning, late.place, late.number()), (Meaning::NotEnabled, 2, 5));
+        assert_eq!(late.to_string(), "firing 2: the transition is not enabled");
+        let short = timetable(&input(b"memory=atomic\nfirings=0\n"), &mut out).unwrap_err();
+        assert_eq!((short.meaning, short.place), (Meaning::OutputTooShort, 0));
+        assert_eq!(
+            replay(b"", &mut []).unwrap_err(),
+            Refusal {
+                meaning: Meaning::Malformed,
+                place: 1
+            }
+        );
+        assert_eq!(out, [7u8; 16]);
+    }
+}

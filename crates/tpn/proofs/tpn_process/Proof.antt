@@ -1,0 +1,28 @@
+-- The reply is the operation's, and its result tells it, since lengths and places are small.
+use lib.Dec.{lit<}
+use borrow.Author.Needs.{needs}
+use Rattle.engine.proofs.Lengths.{process-bounds}
+use Rattle.tpn.proofs.Results.{reply-narrow, returned}
+use Rattle.tpn.proofs.tpn_process.Statement.{statement}
+use Rattle.tpn.proofs.tpn_process.Tie as tie
+
+process-cards-requires : tie.Need-process-cards-requires
+process-cards-requires c κs = search needs
+
+result-of-requires : tie.Need-result-of-requires
+result-of-requires c κs =
+    let k = c .before .before in
+    let s = k .before .before .before .before .args .input .now in
+    reply-narrow (process-bounds s) (lit< tt) (lit< tt) (k .process-cards .ensures)
+
+same-length : tie.Need-same-length
+same-length c = search needs
+
+returns : tie.Need-returns
+returns c =
+    let k = c .before .before .before in
+    let s = k .before .before .before .before .args .input .now in
+    returned (process-bounds s) (lit< tt) (lit< tt) (k .process-cards .ensures) (c .result-of .ensures)
+
+pub tpn-process-spec : {M : Type 1} → statement M
+tpn-process-spec = tie.close (tie.spec process-cards-requires result-of-requires same-length returns)

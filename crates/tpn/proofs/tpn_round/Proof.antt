@@ -1,0 +1,28 @@
+-- The reply is the operation's, and its result tells it, since lengths and places are small.
+use lib.Dec.{lit<}
+use borrow.Author.Needs.{needs}
+use Rattle.engine.proofs.Lengths.{round-bounds}
+use Rattle.tpn.proofs.Results.{reply-narrow, returned}
+use Rattle.tpn.proofs.tpn_round.Statement.{statement}
+use Rattle.tpn.proofs.tpn_round.Tie as tie
+
+round-cards-requires : tie.Need-round-cards-requires
+round-cards-requires c κs = search needs
+
+result-of-requires : tie.Need-result-of-requires
+result-of-requires c κs =
+    let k = c .before .before in
+    let s = k .before .before .before .before .args .input .now in
+    reply-narrow (round-bounds s) (lit< tt) (lit< tt) (k .round-cards .ensures)
+
+same-length : tie.Need-same-length
+same-length c = search needs
+
+returns : tie.Need-returns
+returns c =
+    let k = c .before .before .before in
+    let s = k .before .before .before .before .args .input .now in
+    returned (round-bounds s) (lit< tt) (lit< tt) (k .round-cards .ensures) (c .result-of .ensures)
+
+pub tpn-round-spec : {M : Type 1} → statement M
+tpn-round-spec = tie.close (tie.spec round-cards-requires result-of-requires same-length returns)

@@ -1,0 +1,324 @@
+//! `bench [--samples N] [--naive]`: times the plain version and the engine in turn on the same
+//! inputs, and prints medians as a Markdown table.
+
+use harness::gen::{self, Rng};
+use harness::naive::{Memory, Net, Order, Run, Transition};
+use harness::{
+    engine::ENGINE, paper, Engine, Operation, Outcome, LONGEST, NAIVE, OPERATIONS, PLAIN,
+};
+use std::env;
+use std::hint::black_box;
+use std::process::ExitCode;
+use std::time::{Duration, Instant};
+
+const REPLAY: usize = 0;
+const ROUND: usize = 1;
+const TIMETABLE: usize = 2;
+const PROCESS: usize = 3;
+
+/// The least time of one sample; the calls of a sample are as many as it takes.
+const SAMPLE: Duration = Duration::from_micros(150);
+
+const WARM_UP: Duration = Duration::from_millis(500);
+
+struct Workload {
+    operation: usize,
+    name: &'static str,
+    inputs: Vec<Vec<u8>>,
+}
+
+// Workloads
+
+fn typical_runs() -> Vec<Vec<u8>> {
+    let atomic = paper::run(Memory::Atomic, 2, &[(3, 0), (3, 0), (0, 1)], 0);
+    let resting = paper::run(Memory::Intermediate, 2, &[], 3);
+    let waiting = paper::run(Memory::Intermediate, 1, &[(3, 0), (2, 1), (0, 2)], 0);
+    let free = paper::run(Memory::Intermediate, 1, &[(1, 0), (0, 1), (2, 2)], 0);
+    [
+        (paper::net_a(), atomic),
+        (paper::net_a(), resting),
+        (paper::net_b(), waiting),
+        (paper::net_c(), free),
+    ]
+    .iter()
+    .map(gen::join_run)
+    .collect()
+}
+
+fn typical_orders() -> Vec<Vec<u8>> {
+    [
+        (paper::net_a(), Memory::Atomic, [0, 0, 1].as_slice()),
+        (paper::net_a(), Memory::Intermediate, &[0, 0, 1]),
+        (paper::net_a(), Memory::Atomic, &[0, 0, 0, 0, 1]),
+        (paper::net_a(), Memory::Intermediate, &[0, 0, 0, 0, 0, 1]),
+        (paper::net_b(), Memory::Atomic, &[0, 1, 2]),
+    ]
+    .into_iter()
+    .map(|(net, memory, fire)| gen::join(&(net, paper::order(memory, fire))))
+    .collect()
+}
+
+fn several(make: impl FnMut() -> Vec<u8>) -> Vec<Vec<u8>> {
+    std::iter::repeat_with(make).take(8).collect()
+}
+
+/// The largest net with every transition alike.
+fn uniform(tokens: u64, earliest: u64, latest: Option<u64>, weight: u64) -> Net {
+    let transition = Transition {
+        earliest,
+        latest,
+        take: vec![weight; 16],
+        give: vec![weight; 16],
+    };
+    Net {
+        start: vec![tokens; 16],
+        transitions: vec![transition; 32],
+    }
+}
+
+/// 64 firings of the last transition with the longest waits, behind the longest net card.
+fn longest_run(memory: Memory) -> (Net, Run) {
+    let firings = vec![(10_000_000, 31); 64];
+    let run = paper::run(memory, 1, &firings, 10_000_000);
+    (uniform(255, 100, None, 255), run)
+}
+
+/// Every firing takes tokens of two producers from every place.
+fn longest_process() -> (Net, Run) {
+    let firings: Vec<(u64, usize)> = (0..64).map(|at| (at, 31 - at as usize % 20)).collect();
+    let run = paper::run(Memory::Intermediate, 1, &firings, 0);
+    (uniform(255, 0, None, 200), run)
+}
+
+/// Every wait has four digits and every transition number two.
+fn longest_timetable() -> (Net, Order) {
+    let fire: Vec<usize> = (0..64).map(|at| 31 - at % 20).collect();
+    let order = paper::order(Memory::Intermediate, &fire);
+    (uniform(255, 1000, Some(1000), 255), order)
+}
+
+fn workloads() -> Vec<Workload> {
+    let rng = &mut Rng::new(2026);
+    let large_runs = several(|| gen::join_run(&gen::large_run(rng)));
+    let large_orders = several(|| gen::join(&gen::large_order(rng)));
+    let one = |operation, name, input| Workload {
+        operation,
+        name,
+        inputs: vec![input],
+    };
+    let mut workloads = Vec::new();
+    for operation in [REPLAY, ROUND, TIMETABLE, PROCESS] {
+        let (typical, large) = match operation {
+            TIMETABLE => (typical_orders(), large_orders.clone()),
+            _ => (typical_runs(), large_runs.clone()),
+        };
+        for (name, inputs) in [("typical", typical), ("large", large)] {
+            workloads.push(Workload {
+                operation,
+                name,
+                inputs,
+            });
+        }
+        let longest = "worst: longest cards and answer";
+        match operation {
+            REPLAY => workloads.push(one(
+                operation,
+                longest,
+                gen::join_run(&longest_run(Memory::Atomic)),
+            )),
+            ROUND => workloads.push(one(
+                operation,
+                longest,
+                gen::join_run(&longest_run(Memory::Intermediate)),
+            )),
+            TIMETABLE => {
+                workloads.push(one(operation, longest, gen::join(&longest_timetable())));
+                workloads.push(one(
+                    operation,
+                    "worst: most sweeps",
+                    gen::join(&gen::most_sweeps()),
+                ));
+                workloads.push(one(
+                    operation,
+                    "worst: most bends, 8 at the last",
+                    gen::join(&gen::bends_to_the_last()),
+                ));
+                workloads.push(one(
+                    operation,
+                    "worst: slow gain, 8 at the last",
+                    gen::join(&gen::drift_to_the_last()),
+                ));
+            }
+            _ => workloads.push(one(operation, longest, gen::join_run(&longest_process()))),
+        }
+    }
+    workloads
+}
+
+// Timing
+
+/// The time of one sample, in nanoseconds a call.
+fn sample(operation: Operation, inputs: &[Vec<u8>], rounds: usize, output: &mut [u8]) -> f64 {
+    let start = Instant::now();
+    for _ in 0..rounds {
+        for input in inputs {
+            black_box(operation(black_box(input), black_box(output)));
+        }
+    }
+    start.elapsed().as_nanos() as f64 / (rounds * inputs.len()) as f64
+}
+
+/// The item at a fraction of the sorted list.
+fn quantile(values: &mut [f64], fraction: f64) -> f64 {
+    values.sort_by(f64::total_cmp);
+    values[((values.len() - 1) as f64 * fraction).round() as usize]
+}
+
+struct Timed {
+    plain: f64,
+    other: f64,
+    /// The median and the quarter points of the ratios of neighbouring samples, on which other load
+    /// tells less than on the times.
+    ratio: f64,
+    ratios: (f64, f64),
+}
+
+fn time(workload: &Workload, other: &Engine, samples: usize, output: &mut [u8]) -> Timed {
+    let sides = [
+        PLAIN.operations[workload.operation],
+        other.operations[workload.operation],
+    ];
+    let inputs = &workload.inputs;
+    let rounds = sides.map(|side| {
+        let call = sample(side, inputs, 20, output);
+        let round = call * inputs.len() as f64;
+        (SAMPLE.as_nanos() as f64 / round).ceil().max(1.0) as usize
+    });
+    let mut times = [const { Vec::new() }; 2];
+    for index in 0..samples {
+        // Each side goes first in every second sample.
+        for turn in 0..2 {
+            let side = (index + turn) % 2;
+            times[side].push(sample(sides[side], inputs, rounds[side], output));
+        }
+    }
+    let mut ratios: Vec<f64> = times[1]
+        .iter()
+        .zip(&times[0])
+        .map(|(other, plain)| other / plain)
+        .collect();
+    let [plain, other] = &mut times;
+    Timed {
+        plain: quantile(plain, 0.5),
+        other: quantile(other, 0.5),
+        ratio: quantile(&mut ratios, 0.5),
+        ratios: (quantile(&mut ratios, 0.25), quantile(&mut ratios, 0.75)),
+    }
+}
+
+/// Lets the processor reach its speed before the first row.
+fn warm_up(workloads: &[Workload], other: &Engine, output: &mut [u8]) {
+    let start = Instant::now();
+    while start.elapsed() < WARM_UP {
+        for workload in workloads {
+            for engine in [&PLAIN, other] {
+                sample(
+                    engine.operations[workload.operation],
+                    &workload.inputs,
+                    1,
+                    output,
+                );
+            }
+        }
+    }
+}
+
+/// What both sides make of a workload, if they agree: an answer's mean length, or the refusal.
+fn outcome(workload: &Workload, other: &Engine) -> Option<String> {
+    let mut lengths = 0;
+    let mut refusal = None;
+    for input in &workload.inputs {
+        let (mut a, mut b) = (vec![0; LONGEST], vec![0; LONGEST]);
+        let result = PLAIN.operations[workload.operation](input, &mut a);
+        if other.operations[workload.operation](input, &mut b) != result || a != b {
+            return None;
+        }
+        match Outcome::of(result) {
+            Outcome::Answer { length } => lengths += length,
+            Outcome::Refusal { number, place } => refusal = Some(format!("{number} at {place}")),
+        }
+    }
+    Some(refusal.unwrap_or_else(|| (lengths / workload.inputs.len()).to_string()))
+}
+
+fn run(other: &Engine, samples: usize) -> bool {
+    let mut output = vec![0; LONGEST];
+    let workloads = workloads();
+    warm_up(&workloads, other, &mut output);
+    println!("| operation | input | bytes in | bytes out | plain ns | {} ns | ratio | half of the ratios |", other.name);
+    println!("|---|---|---:|---:|---:|---:|---:|---|");
+    let mut against = Vec::new();
+    let mut large = [(0.0, 0.0); 4];
+    for workload in &workloads {
+        let Some(outcome) = outcome(workload, other) else {
+            println!(
+                "\nThe sides differ on {}, {}: run compare.",
+                OPERATIONS[workload.operation], workload.name
+            );
+            return false;
+        };
+        let bytes: usize = workload.inputs.iter().map(Vec::len).sum();
+        let timed = time(workload, other, samples, &mut output);
+        println!(
+            "| {} | {} | {} | {outcome} | {:.0} | {:.0} | {:.2} | {:.2} to {:.2} |",
+            OPERATIONS[workload.operation],
+            workload.name,
+            bytes / workload.inputs.len(),
+            timed.plain,
+            timed.other,
+            timed.ratio,
+            timed.ratios.0,
+            timed.ratios.1,
+        );
+        let typical = &mut large[workload.operation];
+        match workload.name {
+            "typical" => {}
+            "large" => *typical = (timed.plain, timed.other),
+            _ => against.push(format!(
+                "{} {}: plain {:.1}, {} {:.1}",
+                OPERATIONS[workload.operation],
+                workload.name,
+                timed.plain / typical.0,
+                other.name,
+                timed.other / typical.1,
+            )),
+        }
+    }
+    println!("\nTimes the large input's cost: {}.", against.join("; "));
+    true
+}
+
+fn main() -> ExitCode {
+    let mut samples = 801;
+    let mut other = ENGINE;
+    let mut arguments = env::args().skip(1);
+    while let Some(argument) = arguments.next() {
+        match argument.as_str() {
+            "--naive" => other = NAIVE,
+            "--samples" => match arguments.next().and_then(|text| text.parse().ok()) {
+                Some(count) if count > 0 => samples = count,
+                _ => return usage(),
+            },
+            _ => return usage(),
+        }
+    }
+    match run(&other, samples) {
+        true => ExitCode::SUCCESS,
+        false => ExitCode::FAILURE,
+    }
+}
+
+fn usage() -> ExitCode {
+    eprintln!("usage: bench [--samples N] [--naive]");
+    ExitCode::from(2)
+}

@@ -1,0 +1,79 @@
+//! The engine under test. This is the one file to change when its interface does.
+
+use crate::Engine;
+
+/// The linked library.
+#[cfg(linked)]
+pub const ENGINE: Engine = Engine {
+    name: "engine",
+    operations: [
+        linked::replay,
+        linked::round,
+        linked::timetable,
+        linked::process,
+    ],
+};
+
+/// Without a library (TPN_LIB_DIR not set while building) the plain version stands in.
+#[cfg(not(linked))]
+pub const ENGINE: Engine = Engine {
+    name: "plain again",
+    ..crate::PLAIN
+};
+
+#[cfg(linked)]
+mod linked {
+    type Foreign = unsafe extern "C" fn(*const u8, usize, *mut u8, usize) -> i64;
+
+    extern "C" {
+        fn tpn_replay(
+            input: *const u8,
+            input_len: usize,
+            output: *mut u8,
+            output_len: usize,
+        ) -> i64;
+        fn tpn_round(input: *const u8, input_len: usize, output: *mut u8, output_len: usize)
+            -> i64;
+        fn tpn_timetable(
+            input: *const u8,
+            input_len: usize,
+            output: *mut u8,
+            output_len: usize,
+        ) -> i64;
+        fn tpn_process(
+            input: *const u8,
+            input_len: usize,
+            output: *mut u8,
+            output_len: usize,
+        ) -> i64;
+    }
+
+    #[inline(always)]
+    fn call(function: Foreign, input: &[u8], output: &mut [u8]) -> i64 {
+        // Safety: both pairs are live slices, and the library stays within the lengths given.
+        unsafe {
+            function(
+                input.as_ptr(),
+                input.len(),
+                output.as_mut_ptr(),
+                output.len(),
+            )
+        }
+    }
+
+    pub fn replay(input: &[u8], output: &mut [u8]) -> i64 {
+        call(tpn_replay, input, output)
+    }
+
+    pub fn round(input: &[u8], output: &mut [u8]) -> i64 {
+        call(tpn_round, input, output)
+    }
+
+    pub fn timetable(input: &[u8], output: &mut [u8]) -> i64 {
+        call(tpn_timetable, input, output)
+    }
+
+    pub fn process(input: &[u8], output: &mut [u8]) -> i64 {
+        call(tpn_process, input, output)
+    }
+}

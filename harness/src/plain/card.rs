@@ -1,0 +1,269 @@
+//! Cards, read in one pass into fixed arrays.
+
+use super::refused;
+
+pub const PLACES: usize = 16;
+pub const TRANSITIONS: usize = 32;
+pub const FIRINGS: usize = 64;
+
+/// The `latest` of a transition without an upper bound.
+pub const UNBOUNDED: u32 = u32::MAX;
+
+const MOST_TOKENS: u32 = 255;
+const MOST_TICKS: u32 = 1_000;
+const MOST_PARTS: u32 = 10_000_000;
+
+/// A number for each place; 0 past the places of the net.
+pub type Tokens = [u8; PLACES];
+
+#[derive(Clone, Copy)]
+pub enum Memory {
+    Intermediate,
+    Atomic,
+}
+
+#[derive(Clone, Copy)]
+pub struct Transition {
+    pub earliest: u32,
+    pub latest: u32,
+    pub take: Tokens,
+    pub give: Tokens,
+}
+
+pub struct Net {
+    pub places: usize,
+    pub transitions: usize,
+    pub start: Tokens,
+    pub transition: [Transition; TRANSITIONS],
+}
+
+pub struct Run {
+    pub memory: Memory,
+    pub denominator: u32,
+    pub firings: usize,
+    pub wait: [u32; FIRINGS],
+    pub fire: [u8; FIRINGS],
+    pub rest: u32,
+}
+
+pub struct Order {
+    pub memory: Memory,
+    pub firings: usize,
+    pub fire: [u8; FIRINGS],
+}
+
+impl Net {
+    #[inline(always)]
+    pub fn empty() -> Self {
+        const NONE: Transition = Transition {
+            earliest: 0,
+            latest: 0,
+            take: [0; PLACES],
+            give: [0; PLACES],
+        };
+        Net {
+            places: 0,
+            transitions: 0,
+            start: [0; PLACES],
+            transition: [NONE; TRANSITIONS],
+        }
+    }
+
+    /// Fills an empty net from the card at the front of the input; the bytes behind it.
+    pub fn read<'a>(&mut self, input: &'a [u8]) -> Result<&'a [u8], i64> {
+        let mut lines = Lines::new(input);
+        self.places = lines.number(b"places=", 1, PLACES as u32)? as usize;
+        self.transitions = lines.number(b"transitions=", 1, TRANSITIONS as u32)? as usize;
+        for tokens in &mut self.start[..self.places] {
+            *tokens = lines.number(b"start=", 0, MOST_TOKENS)? as u8;
+        }
+        for transition in &mut self.transition[..self.transitions] {
+            transition.earliest = lines.number(b"earliest=", 0, MOST_TICKS)?;
+            transition.latest = lines.latest(transition.earliest)?;
+            lines.weights(b"take=", &mut transition.take[..self.places])?;
+            lines.weights(b"give=", &mut transition.give[..self.places])?;
+        }
+        Ok(lines.rest)
+    }
+}
+
+impl Run {
+    #[inline(always)]
+    pub fn empty() -> Self {
+        Run {
+            memory: Memory::Atomic,
+            denominator: 1,
+            firings: 0,
+            wait: [0; FIRINGS],
+            fire: [0; FIRINGS],
+            rest: 0,
+        }
+    }
+
+    pub fn read(&mut self, input: &[u8], net: &Net) -> Result<(), i64> {
+        let mut lines = Lines::new(input);
+        self.memory = lines.memory()?;
+        self.denominator = lines.number(b"denominator=", 1, 1_000)?;
+        self.firings = lines.number(b"firings=", 0, FIRINGS as u32)? as usize;
+        for (wait, fire) in self.wait.iter_mut().zip(&mut self.fire).take(self.firings) {
+            *wait = lines.number(b"wait=", 0, MOST_PARTS)?;
+            *fire = lines.fire(net.transitions)?;
+        }
+        self.rest = lines.number(b"rest=", 0, MOST_PARTS)?;
+        lines.end()
+    }
+}
+
+impl Order {
+    #[inline(always)]
+    pub fn empty() -> Self {
+        Order {
+            memory: Memory::Atomic,
+            firings: 0,
+            fire: [0; FIRINGS],
+        }
+    }
+
+    pub fn read(&mut self, input: &[u8], net: &Net) -> Result<(), i64> {
+        let mut lines = Lines::new(input);
+        self.memory = lines.memory()?;
+        self.firings = lines.number(b"firings=", 0, FIRINGS as u32)? as usize;
+        for fire in &mut self.fire[..self.firings] {
+            *fire = lines.fire(net.transitions)?;
+        }
+        lines.end()
+    }
+}
+
+/// The lines of one card.
+struct Lines<'a> {
+    rest: &'a [u8],
+    /// Lines begun so far, which is the number of the line being read.
+    line: u32,
+}
+
+impl<'a> Lines<'a> {
+    fn new(input: &'a [u8]) -> Self {
+        Lines {
+            rest: input,
+            line: 0,
+        }
+    }
+
+    /// Begins a line; the bytes behind its key.
+    #[inline(always)]
+    fn key<const N: usize>(&mut self, key: &[u8; N]) -> Result<&'a [u8], i64> {
+        self.line += 1;
+        match self.rest.split_first_chunk::<N>() {
+            Some((front, behind)) if front == key => Ok(behind),
+            _ => Err(refused(1, self.line)),
+        }
+    }
+
+    /// Reads a line with a number of good form.
+    #[inline(always)]
+    fn any_number<const N: usize>(&mut self, key: &[u8; N]) -> Result<u32, i64> {
+        let text = self.key(key)?;
+        let (value, rest) = decimal(text, b'\n').ok_or(refused(1, self.line))?;
+        self.rest = rest;
+        Ok(value)
+    }
+
+    #[inline(always)]
+    fn number<const N: usize>(&mut self, key: &[u8; N], least: u32, most: u32) -> Result<u32, i64> {
+        let value = self.any_number(key)?;
+        if value < least || value > most {
+            return Err(refused(2, self.line));
+        }
+        Ok(value)
+    }
+
+    #[inline(always)]
+    fn latest(&mut self, earliest: u32) -> Result<u32, i64> {
+        if let Some(rest) = self.rest.strip_prefix(b"latest=inf\n") {
+            self.rest = rest;
+            self.line += 1;
+            return Ok(UNBOUNDED);
+        }
+        let latest = self.number(b"latest=", 0, MOST_TICKS)?;
+        if latest < earliest {
+            return Err(refused(3, self.line));
+        }
+        Ok(latest)
+    }
+
+    /// Reads a list of as many weights as there are slots, of which there is at least one.
+    #[inline(always)]
+    fn weights<const N: usize>(&mut self, key: &[u8; N], slots: &mut [u8]) -> Result<(), i64> {
+        let mut text = self.key(key)?;
+        let bad_form = refused(1, self.line);
+        let mut most = 0;
+        let (last, others) = slots.split_last_mut().ok_or(bad_form)?;
+        for slot in others {
+            let (value, rest) = decimal(text, b',').ok_or(bad_form)?;
+            *slot = value as u8;
+            most = most.max(value);
+            text = rest;
+        }
+        let (value, rest) = decimal(text, b'\n').ok_or(bad_form)?;
+        *last = value as u8;
+        self.rest = rest;
+        if most.max(value) > MOST_TOKENS {
+            return Err(refused(2, self.line));
+        }
+        Ok(())
+    }
+
+    fn memory(&mut self) -> Result<Memory, i64> {
+        let text = self.key(b"memory=")?;
+        let (memory, rest) = if let Some(rest) = text.strip_prefix(b"intermediate\n") {
+            (Memory::Intermediate, rest)
+        } else if let Some(rest) = text.strip_prefix(b"atomic\n") {
+            (Memory::Atomic, rest)
+        } else {
+            return Err(refused(1, self.line));
+        };
+        self.rest = rest;
+        Ok(memory)
+    }
+
+    #[inline(always)]
+    fn fire(&mut self, transitions: usize) -> Result<u8, i64> {
+        let value = self.any_number(b"fire=")?;
+        if value as usize >= transitions {
+            return Err(refused(4, self.line));
+        }
+        Ok(value as u8)
+    }
+
+    fn end(&self) -> Result<(), i64> {
+        if self.rest.is_empty() {
+            Ok(())
+        } else {
+            Err(refused(1, self.line + 1))
+        }
+    }
+}
+
+/// Reads one to nine digits without a leading zero, and the byte behind them.
+#[inline(always)]
+fn decimal(text: &[u8], end: u8) -> Option<(u32, &[u8])> {
+    let (&first, mut rest) = text.split_first()?;
+    let mut value = u32::from(first.wrapping_sub(b'0'));
+    if value > 9 {
+        return None;
+    }
+    loop {
+        let (&byte, behind) = rest.split_first()?;
+        rest = behind;
+        if byte == end {
+            return Some((value, rest));
+        }
+        let digit = u32::from(byte.wrapping_sub(b'0'));
+        // A digit behind a value of 0 makes a leading zero, one behind nine digits a tenth.
+        if digit > 9 || value == 0 || value >= 100_000_000 {
+            return None;
+        }
+        value = value * 10 + digit;
+    }
+}

@@ -1,0 +1,237 @@
+//! The four operations as plain Rust, written for speed from the paper alone.
+//!
+//! Each reads both cards in one pass into fixed arrays, steps through the firings, and writes its
+//! answer into a buffer on the stack, which is copied out once its length is known.
+
+mod card;
+mod firing;
+mod text;
+mod timing;
+
+use card::{Memory, Net, Order, Run, FIRINGS, PLACES};
+use firing::State;
+use text::Text;
+use timing::Timing;
+
+const REPLAY_LONGEST: usize = 580;
+const RUN_LONGEST: usize = 1_467;
+const PROCESS_LONGEST: usize = 22_000;
+
+/// The result of a refusal.
+const fn refused(number: u32, place: u32) -> i64 {
+    -(number as i64 * 65_536 + place as i64)
+}
+
+fn result(outcome: Result<i64, i64>) -> i64 {
+    match outcome {
+        Ok(value) | Err(value) => value,
+    }
+}
+
+/// The marking and the clocks at the end of a run.
+pub fn replay(input: &[u8], out: &mut [u8]) -> i64 {
+    result(replay_outcome(input, out))
+}
+
+/// The run with every instant cut down to whole ticks.
+pub fn round(input: &[u8], out: &mut [u8]) -> i64 {
+    result(round_outcome(input, out))
+}
+
+/// The earliest whole-tick run of an order.
+pub fn timetable(input: &[u8], out: &mut [u8]) -> i64 {
+    result(timetable_outcome(input, out))
+}
+
+/// The causal process of a run.
+pub fn process(input: &[u8], out: &mut [u8]) -> i64 {
+    result(process_outcome(input, out))
+}
+
+fn replay_outcome(input: &[u8], out: &mut [u8]) -> Result<i64, i64> {
+    let (mut net, mut run) = (Net::empty(), Run::empty());
+    let rest = net.read(input)?;
+    run.read(rest, &net)?;
+    let (state, last) = replayed(&net, &run)?;
+    let end = last + run.rest;
+
+    let mut text = Text::<REPLAY_LONGEST>::new();
+    text.push(b"end=");
+    for (place, &tokens) in state.marking[..net.places].iter().enumerate() {
+        let last_place = place + 1 == net.places;
+        text.number(tokens.into(), if last_place { b'\n' } else { b',' });
+    }
+    for transition in 0..net.transitions {
+        text.push(b"clock=");
+        if state.is_enabled(transition) {
+            text.number(end - state.since[transition], b'\n');
+        } else {
+            text.push(b"off\n");
+        }
+    }
+    text.copy_to(out)
+}
+
+fn round_outcome(input: &[u8], out: &mut [u8]) -> Result<i64, i64> {
+    let (mut net, mut run) = (Net::empty(), Run::empty());
+    let rest = net.read(input)?;
+    run.read(rest, &net)?;
+    replayed(&net, &run)?;
+
+    let mut text = Text::<RUN_LONGEST>::new();
+    run_head(&mut text, run.memory, run.firings);
+    let (mut instant, mut ticks) = (0, 0);
+    for (&wait, &fire) in run.wait.iter().zip(&run.fire).take(run.firings) {
+        instant += wait;
+        let before = ticks;
+        ticks = instant / run.denominator;
+        firing_lines(&mut text, ticks - before, fire);
+    }
+    text.push(b"rest=");
+    text.number((instant + run.rest) / run.denominator - ticks, b'\n');
+    text.copy_to(out)
+}
+
+fn timetable_outcome(input: &[u8], out: &mut [u8]) -> Result<i64, i64> {
+    let (mut net, mut order) = (Net::empty(), Order::empty());
+    let rest = net.read(input)?;
+    order.read(rest, &net)?;
+
+    let mut origins = [0u32; FIRINGS];
+    let mut state = State::new(&net, order.memory);
+    let fire = &order.fire[..order.firings];
+    for ((&fire, origin), number) in fire.iter().zip(&mut origins).zip(1..) {
+        let fire = usize::from(fire);
+        if !state.is_enabled(fire) {
+            return Err(refused(5, number));
+        }
+        *origin = state.since[fire];
+        if !state.fire(fire, number) {
+            return Err(refused(6, number));
+        }
+    }
+
+    let mut timing = Timing::new();
+    for ((&fire, &origin), number) in fire.iter().zip(&origins).zip(1..) {
+        let transition = &net.transition[usize::from(fire)];
+        if !timing.extend(origin, transition.earliest, transition.latest) {
+            return Err(refused(8, number));
+        }
+    }
+
+    let mut text = Text::<RUN_LONGEST>::new();
+    run_head(&mut text, order.memory, order.firings);
+    for (pair, &fire) in timing.instants().windows(2).zip(fire) {
+        firing_lines(&mut text, pair[1] - pair[0], fire);
+    }
+    text.push(b"rest=0\n");
+    text.copy_to(out)
+}
+
+fn process_outcome(input: &[u8], out: &mut [u8]) -> Result<i64, i64> {
+    let (mut net, mut run) = (Net::empty(), Run::empty());
+    let rest = net.read(input)?;
+    run.read(rest, &net)?;
+    replayed(&net, &run)?;
+
+    // Tokens of each place by producer, and the oldest producer that may have some left.
+    let mut tokens = [[0u8; FIRINGS + 1]; PLACES];
+    let mut oldest = [0usize; PLACES];
+    for (batches, &start) in tokens.iter_mut().zip(&net.start) {
+        batches[0] = start;
+    }
+    let mut bound = 0u64;
+    let mut text = Text::<PROCESS_LONGEST>::new();
+    for (firing, &fire) in (1..).zip(&run.fire[..run.firings]) {
+        let transition = &net.transition[usize::from(fire)];
+        text.push(b"fire=");
+        text.number(fire.into(), b'\n');
+        text.push(b"from=");
+        let list = text.len();
+        for place in 0..net.places {
+            let batches = &mut tokens[place];
+            let mut wanted = transition.take[place];
+            while wanted > 0 {
+                let producer = oldest[place];
+                let taken = wanted.min(batches[producer]);
+                if taken > 0 {
+                    item(&mut text, place, producer, taken);
+                    wanted -= taken;
+                    batches[producer] -= taken;
+                    bound |= u64::from(producer + 1 == firing) << producer;
+                }
+                oldest[place] += usize::from(batches[producer] == 0);
+            }
+            batches[firing] = transition.give[place];
+        }
+        text.end_list(list);
+    }
+
+    text.push(b"left=");
+    let list = text.len();
+    for (place, batches) in tokens[..net.places].iter().enumerate() {
+        for (producer, &count) in batches.iter().enumerate().skip(oldest[place]) {
+            if count > 0 {
+                item(&mut text, place, producer, count);
+            }
+        }
+    }
+    text.end_list(list);
+    text.push(b"free=");
+    let list = text.len();
+    for firing in 1..run.firings {
+        if (bound >> firing) & 1 == 0 {
+            text.number(firing as u32, b',');
+        }
+    }
+    text.end_list(list);
+    text.copy_to(out)
+}
+
+/// The state after the last firing, and its instant; or the first firing refused.
+fn replayed<'n>(net: &'n Net, run: &Run) -> Result<(State<'n>, u32), i64> {
+    let mut state = State::new(net, run.memory);
+    let mut now = 0;
+    let firings = run.wait.iter().zip(&run.fire).take(run.firings);
+    for ((&wait, &fire), number) in firings.zip(1..) {
+        now += wait;
+        let fire = usize::from(fire);
+        if !state.is_enabled(fire) {
+            return Err(refused(5, number));
+        }
+        let transition = &net.transition[fire];
+        let clock = now - state.since[fire];
+        if clock < transition.earliest * run.denominator
+            || clock > transition.latest.saturating_mul(run.denominator)
+        {
+            return Err(refused(7, number));
+        }
+        if !state.fire(fire, now) {
+            return Err(refused(6, number));
+        }
+    }
+    Ok((state, now))
+}
+
+/// The lines of a whole-tick run card before its firings.
+fn run_head(text: &mut Text<RUN_LONGEST>, memory: Memory, firings: usize) {
+    match memory {
+        Memory::Intermediate => text.push(b"memory=intermediate\ndenominator=1\nfirings="),
+        Memory::Atomic => text.push(b"memory=atomic\ndenominator=1\nfirings="),
+    }
+    text.number(firings as u32, b'\n');
+}
+
+fn firing_lines(text: &mut Text<RUN_LONGEST>, wait: u32, fire: u8) {
+    text.push(b"wait=");
+    text.number(wait, b'\n');
+    text.push(b"fire=");
+    text.number(fire.into(), b'\n');
+}
+
+/// An item of a `from` or `left` list, with a comma behind it.
+fn item(text: &mut Text<PROCESS_LONGEST>, place: usize, producer: usize, count: u8) {
+    text.number(place as u32, b'.');
+    text.number(producer as u32, b'.');
+    text.number(count.into(), b',');
+}

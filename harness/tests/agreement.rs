@@ -1,0 +1,61 @@
+//! The plain version against the naive one, byte by byte, over generated inputs of all kinds.
+
+use harness::{gen, Outcome, LONGEST, NAIVE, OPERATIONS, PLAIN};
+
+/// The result and the output of a call into an output of this length, filled beforehand.
+fn call(operation: harness::Operation, input: &[u8], length: usize) -> (i64, Vec<u8>) {
+    let mut output: Vec<u8> = (0..length).map(|at| (at * 7 + 1) as u8).collect();
+    (operation(input, &mut output), output)
+}
+
+#[test]
+fn plain_and_naive_agree() {
+    let mut refusals = [0; 10];
+    let mut answers = 0;
+    for index in 0..6_000 {
+        let input = gen::input(99, index).bytes;
+        for (at, name) in OPERATIONS.iter().enumerate() {
+            let (plain, naive) = (PLAIN.operations[at], NAIVE.operations[at]);
+            let mut lengths = vec![LONGEST, 0];
+            match Outcome::of(plain(&input, &mut [0; LONGEST])) {
+                Outcome::Answer { length } => {
+                    answers += 1;
+                    refusals[9] += 1;
+                    lengths.extend([length, length - 1]);
+                }
+                Outcome::Refusal { number, .. } => refusals[number as usize] += 1,
+            }
+            for length in lengths {
+                let expected = call(naive, &input, length);
+                let found = call(plain, &input, length);
+                assert!(
+                    found == expected,
+                    "{name} of {} into {length}: {} and {}",
+                    input.escape_ascii(),
+                    found.0,
+                    expected.0
+                );
+            }
+        }
+    }
+    assert!(answers > 1_000, "{answers} answers");
+    assert!(
+        refusals[1..].iter().all(|&count| count > 20),
+        "{refusals:?}"
+    );
+}
+
+#[test]
+fn the_bytes_behind_an_answer_stay() {
+    for index in 0..300 {
+        let input = gen::input(5, index).bytes;
+        for operation in PLAIN.operations {
+            let (result, output) = call(operation, &input, LONGEST);
+            let written = match Outcome::of(result) {
+                Outcome::Answer { length } => length,
+                Outcome::Refusal { .. } => 0,
+            };
+            assert!((written..LONGEST).all(|at| output[at] == (at * 7 + 1) as u8));
+        }
+    }
+}

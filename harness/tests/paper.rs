@@ -1,0 +1,408 @@
+//! The cases of the paper and of the readings of its open points, on the plain and the naive version.
+//! In texts `|` stands for byte 10.
+
+use harness::naive::Net;
+use harness::paper::{net, net_255, net_a, net_b, net_c};
+use harness::{printed, NAIVE, OPERATIONS, PLAIN};
+
+fn bytes(text: &str) -> Vec<u8> {
+    text.replace('|', "\n").into_bytes()
+}
+
+/// Checks what one program prints, on both versions.
+#[track_caller]
+fn prints(program: &str, input: &str, expected: &str) {
+    let at = OPERATIONS.iter().position(|name| *name == program).unwrap();
+    for engine in [PLAIN, NAIVE] {
+        let found = printed(engine.operations[at], &bytes(input));
+        let found = String::from_utf8(found).unwrap().replace('\n', "|");
+        assert_eq!(found, expected, "{} {program} of {input}", engine.name);
+    }
+}
+
+#[track_caller]
+fn refuses(program: &str, input: &str, number: u64, place: u64) {
+    prints(program, input, &format!("refused={number}|place={place}|"));
+}
+
+/// A run card, from its waits and transitions.
+fn run(memory: &str, denominator: u64, firings: &[(u64, u64)], rest: u64) -> String {
+    let lines: String = firings
+        .iter()
+        .map(|(wait, fire)| format!("wait={wait}|fire={fire}|"))
+        .collect();
+    let count = firings.len();
+    format!("memory={memory}|denominator={denominator}|firings={count}|{lines}rest={rest}|")
+}
+
+fn order(memory: &str, fire: &[u64]) -> String {
+    let lines: String = fire.iter().map(|fire| format!("fire={fire}|")).collect();
+    format!("memory={memory}|firings={}|{lines}", fire.len())
+}
+
+/// Checks the instants of a timetable under a memory word.
+#[track_caller]
+fn times(net: &Net, memory: &str, fire: &[u64], instants: &[u64]) {
+    let mut before = 0;
+    let firings = instants.iter().zip(fire).map(|(&instant, &fire)| {
+        let wait = instant - before;
+        before = instant;
+        (wait, fire)
+    });
+    let firings: Vec<(u64, u64)> = firings.collect();
+    prints(
+        "timetable",
+        &(net.card() + &order(memory, fire)),
+        &run(memory, 1, &firings, 0),
+    );
+}
+
+const BOTH: [&str; 2] = ["intermediate", "atomic"];
+
+#[test]
+fn session() {
+    let a = net_a().card();
+    times(&net_a(), "atomic", &[0, 0, 1], &[1, 2, 3]);
+    times(&net_a(), "intermediate", &[0, 0, 1], &[1, 2, 5]);
+    times(&net_a(), "atomic", &[0, 0, 0, 0, 1], &[1, 2, 3, 4, 4]);
+    refuses(
+        "timetable",
+        &(a.clone() + &order("atomic", &[0, 0, 0, 0, 0, 1])),
+        8,
+        6,
+    );
+    times(
+        &net_a(),
+        "intermediate",
+        &[0, 0, 0, 0, 0, 1],
+        &[1, 2, 3, 4, 5, 8],
+    );
+    for memory in BOTH {
+        refuses("timetable", &(a.clone() + &order(memory, &[1, 0])), 5, 2);
+        times(&net_a(), memory, &[], &[]);
+        times(&net_b(), memory, &[0, 1, 2], &[3, 5, 5]);
+        let once = net_255().card() + &run(memory, 1, &[(0, 0)], 0);
+        prints("replay", &once, "end=255|clock=0|");
+        refuses(
+            "replay",
+            &(net_255().card() + &run(memory, 1, &[(0, 0), (0, 0)], 0)),
+            6,
+            2,
+        );
+    }
+    let waits = [(3, 0), (3, 0), (0, 1)];
+    let atomic = a.clone() + &run("atomic", 2, &waits, 0);
+    prints(
+        "round",
+        &atomic,
+        &run("atomic", 1, &[(1, 0), (2, 0), (0, 1)], 0),
+    );
+    refuses(
+        "replay",
+        &(a.clone() + &run("intermediate", 2, &waits, 0)),
+        7,
+        3,
+    );
+    prints("replay", &atomic, "end=0,0|clock=off|clock=off|");
+    prints(
+        "replay",
+        &(a + &run("atomic", 2, &[], 3)),
+        "end=1,1|clock=3|clock=3|",
+    );
+    prints(
+        "process",
+        &atomic,
+        "fire=0|from=0.0.1|fire=0|from=0.1.1|fire=1|from=0.2.1,1.0.1|left=none|free=none|",
+    );
+    let free = net_c().card() + &run("intermediate", 1, &[(1, 0), (0, 1), (2, 2)], 0);
+    prints(
+        "process",
+        &free,
+        "fire=0|from=0.0.1|fire=1|from=1.0.1|fire=2|from=0.2.1|left=none|free=1|",
+    );
+}
+
+/// Net A's card with one line, from 1, put differently.
+fn a_with(line: usize, text: &str) -> String {
+    let card = net_a().card();
+    let lines = card
+        .lines()
+        .enumerate()
+        .map(|(at, old)| if at + 1 == line { text } else { old });
+    lines.map(|line| format!("{line}\n")).collect::<String>() + &run("atomic", 1, &[], 0)
+}
+
+#[test]
+fn numbers_and_lists() {
+    for (text, number) in [
+        ("places=1000000000", 1),
+        ("places=999999999", 2),
+        ("places=0", 2),
+        ("places=17", 2),
+        ("places=017", 1),
+        ("places=00", 1),
+        ("places=", 1),
+        ("places=+1", 1),
+        ("places=-1", 1),
+        ("places= 1", 1),
+        ("places=1 ", 1),
+        ("places=0x1", 1),
+        ("place=2", 1),
+        ("places=2\r", 1),
+        ("", 1),
+    ] {
+        for program in OPERATIONS {
+            refuses(program, &a_with(1, text), number, 1);
+        }
+    }
+    for text in [
+        "take=256,x",
+        "take=256",
+        "take=256,0,0",
+        "take=256,",
+        "take=256,1000000000",
+        "take=,1",
+        "take=1,,1",
+        "take=",
+        "take=1,0,",
+    ] {
+        refuses("replay", &a_with(7, text), 1, 7);
+    }
+    for text in ["take=256,0", "take=0,256", "take=999999999,999999999"] {
+        refuses("replay", &a_with(7, text), 2, 7);
+    }
+    refuses(
+        "replay",
+        "places=1|transitions=1|start=0|earliest=0|latest=0|take=1,|",
+        1,
+        6,
+    );
+    for (text, number) in [
+        ("latest=1001", 2),
+        ("latest=2", 3),
+        ("latest=INF", 1),
+        ("latest=infinity", 1),
+        ("latest=inf0", 1),
+        ("latest=in", 1),
+        ("latest=", 1),
+        ("earliest=3", 1),
+    ] {
+        refuses("replay", &a_with(10, text), number, 10);
+    }
+    for text in ["latest=3", "latest=1000", "latest=inf"] {
+        prints("replay", &a_with(10, text), "end=1,1|clock=0|clock=0|");
+    }
+    refuses("replay", &a_with(9, "earliest=inf"), 1, 9);
+    refuses("replay", &a_with(9, "earliest=1001"), 2, 9);
+    refuses("replay", &a_with(9, "earliest=5"), 3, 10);
+    refuses("replay", "places=17|", 2, 1);
+    refuses("replay", "places=2|transitions=33|x", 2, 2);
+    refuses("replay", "places=2|transitions=2", 1, 2);
+    refuses("replay", "transitions=2|places=2|", 1, 1);
+}
+
+#[test]
+fn lines_of_the_second_card() {
+    let a = net_a().card();
+    let replay = |card: &str, number, place| refuses("replay", &(a.clone() + card), number, place);
+    let timetable =
+        |card: &str, number, place| refuses("timetable", &(a.clone() + card), number, place);
+    replay("", 1, 1);
+    refuses("replay", "", 1, 1);
+    replay("memory=carry|", 1, 1);
+    replay("memory=atomic", 1, 1);
+    replay("memory=atomic|denominator=0|", 2, 2);
+    replay("memory=atomic|denominator=00|", 1, 2);
+    replay("memory=atomic|denominator=1001|", 2, 2);
+    replay("memory=atomic|denominator=1|firings=65|", 2, 3);
+    replay(
+        "memory=atomic|denominator=1|firings=1|wait=007|fire=0|rest=0|",
+        1,
+        4,
+    );
+    replay(
+        "memory=atomic|denominator=1|firings=1|wait=10000001|fire=0|rest=0|",
+        2,
+        4,
+    );
+    replay(
+        "memory=atomic|denominator=1|firings=1|wait=0|fire=2|rest=0|",
+        4,
+        5,
+    );
+    replay(
+        "memory=atomic|denominator=1|firings=1|wait=0|fire=999999999|rest=0|",
+        4,
+        5,
+    );
+    replay(
+        "memory=atomic|denominator=1|firings=1|wait=0|fire=1000000000|rest=0|",
+        1,
+        5,
+    );
+    replay(
+        "memory=atomic|denominator=1|firings=1|wait=0|fire=00|rest=0|",
+        1,
+        5,
+    );
+    replay("memory=atomic|denominator=1|firings=1|wait=0|fire=99", 1, 5);
+    replay("memory=atomic|denominator=1|firings=1|rest=0|", 1, 4);
+    replay("memory=atomic|denominator=1|firings=0|wait=0|", 1, 4);
+    replay("memory=atomic|denominator=1|firings=0|rest=0", 1, 4);
+    replay("memory=atomic|denominator=1|firings=0|rest=10000001", 1, 4);
+    replay("memory=atomic|denominator=1|firings=0|rest=10000001|", 2, 4);
+    replay("memory=atomic|denominator=1|firings=0|rest=0||", 1, 5);
+    replay("memory=atomic|denominator=1|firings=0|rest=0|x", 1, 5);
+    replay(
+        "memory=atomic|denominator=1|firings=2|wait=0|fire=1|wait=0|fire=9|rest=0|",
+        4,
+        7,
+    );
+    replay("memory=atomic|firings=0|", 1, 2);
+    timetable("memory=atomic|denominator=1|firings=0|rest=0|", 1, 2);
+    timetable("memory=atomic|firings=65|", 2, 2);
+    timetable("memory=atomic|firings=1|fire=1|fire=0|", 1, 4);
+    timetable("memory=atomic|firings=1|fire=0", 1, 3);
+    timetable("memory=atomic|firings=2|fire=0|", 1, 4);
+    timetable("memory=atomic|firings=1|fire=2|x", 4, 3);
+}
+
+#[test]
+fn sixty_four_firings() {
+    let net = net(
+        &[1, 1],
+        &[(0, None, &[1, 0], &[1, 0]), (0, None, &[0, 1], &[0, 0])],
+    );
+    let firings = [(10_000_000, 0); 64];
+    let input = net.card() + &run("atomic", 1, &firings, 10_000_000);
+    prints("replay", &input, "end=1,1|clock=10000000|clock=650000000|");
+    prints("round", &input, &run("atomic", 1, &firings, 10_000_000));
+}
+
+#[test]
+fn firing() {
+    let full = net(&[255], &[(1, Some(1), &[0], &[1])]);
+    refuses(
+        "replay",
+        &(full.card() + &run("atomic", 1, &[(0, 0)], 0)),
+        7,
+        1,
+    );
+    refuses(
+        "replay",
+        &(full.card() + &run("atomic", 1, &[(1, 0)], 0)),
+        6,
+        1,
+    );
+    let a = net_a();
+    refuses(
+        "replay",
+        &(a.card() + &run("atomic", 1, &[(3, 1), (0, 0)], 0)),
+        5,
+        2,
+    );
+    let both = net(
+        &[0, 0],
+        &[(0, None, &[0, 0], &[255, 0]), (0, None, &[0, 1], &[0, 0])],
+    );
+    refuses(
+        "timetable",
+        &(both.card() + &order("atomic", &[0, 0, 1])),
+        6,
+        2,
+    );
+    refuses(
+        "timetable",
+        &(a.card() + &order("atomic", &[0, 0, 0, 0, 0, 1, 0])),
+        5,
+        7,
+    );
+    let mut b = net_b();
+    b.transitions[0].latest = Some(1);
+    refuses(
+        "timetable",
+        &(b.card() + &order("atomic", &[0, 1, 2])),
+        8,
+        3,
+    );
+    let kept = net(&[255], &[(0, None, &[1], &[1])]);
+    prints(
+        "replay",
+        &(kept.card() + &run("atomic", 1, &[(0, 0)], 0)),
+        "end=255|clock=0|",
+    );
+    for memory in BOTH {
+        times(
+            &net(&[2], &[(3, Some(3), &[1], &[0])]),
+            memory,
+            &[0, 0],
+            &[3, 6],
+        );
+        times(
+            &net(&[1], &[(1, Some(2), &[0], &[0])]),
+            memory,
+            &[0, 0, 0],
+            &[1, 2, 3],
+        );
+    }
+    let rest = a.card() + &run("atomic", 2, &[], 9);
+    prints("replay", &rest, "end=1,1|clock=9|clock=9|");
+    prints(
+        "replay",
+        &(a.card() + &run("atomic", 1, &[(4, 1)], 0)),
+        "end=0,0|clock=off|clock=off|",
+    );
+    for program in ["replay", "round", "process"] {
+        refuses(program, &(a.card() + &run("atomic", 1, &[(0, 0)], 0)), 7, 1);
+    }
+    prints(
+        "round",
+        &(a.card() + &run("atomic", 2, &[], 3)),
+        &run("atomic", 1, &[], 1),
+    );
+    let pulse = net(&[1], &[(0, None, &[1], &[1])]);
+    let halves = pulse.card() + &run("atomic", 2, &[(1, 0), (1, 0)], 0);
+    prints("round", &halves, &run("atomic", 1, &[(0, 0), (1, 0)], 0));
+}
+
+#[test]
+fn output() {
+    let input = bytes(&(net_a().card() + &order("atomic", &[0, 0, 1])));
+    for engine in [PLAIN, NAIVE] {
+        let timetable = engine.operations[2];
+        assert_eq!(timetable(&input, &mut [0; 87]), 87);
+        let mut short = [7; 86];
+        assert_eq!(timetable(&input, &mut short), -9 * 65_536);
+        assert_eq!(short, [7; 86]);
+        let refused = bytes(&(net_a().card() + &order("atomic", &[1, 0])));
+        assert_eq!(timetable(&refused, &mut []), -(5 * 65_536 + 2));
+    }
+}
+
+#[test]
+fn process() {
+    let firings = [(0, 0), (0, 1)];
+    let one = net(&[1], &[(0, None, &[0], &[1]), (0, None, &[1], &[0])]);
+    prints(
+        "process",
+        &(one.card() + &run("atomic", 1, &firings, 0)),
+        "fire=0|from=none|fire=1|from=0.0.1|left=0.1.1|free=1|",
+    );
+    let two = net(&[1], &[(0, None, &[0], &[2]), (0, None, &[2], &[0])]);
+    prints(
+        "process",
+        &(two.card() + &run("atomic", 1, &firings, 0)),
+        "fire=0|from=none|fire=1|from=0.0.1,0.1.1|left=0.1.1|free=none|",
+    );
+    let given = net(&[0], &[(0, None, &[0], &[1])]);
+    prints(
+        "process",
+        &(given.card() + &run("atomic", 1, &[(0, 0)], 0)),
+        "fire=0|from=none|left=0.1.1|free=none|",
+    );
+    prints(
+        "process",
+        &(net_a().card() + &run("atomic", 1, &[], 0)),
+        "left=0.0.1,1.0.1|free=none|",
+    );
+}

@@ -1,0 +1,50 @@
+/* Timed runs of weak time Petri nets: the four operations on cards.
+ *
+ * Each reads a net card and, right behind it, a run card (tpn_timetable: an order card) from input, and writes its answer to the front of output.
+ * A result from 0 up is the number of bytes written; the bytes of output behind them stay as they were.
+ * A negative result is a refusal, -(number * 65536 + place), and no byte of output is altered.
+ * Nothing is asked of the input. The pointers must not be null, also where a length is 0, and output must not overlap input.
+ * Link libtpn.a; nothing else is needed. The functions keep no state and may be called from several threads. */
+#ifndef TPN_H
+#define TPN_H
+
+#include <stddef.h>
+#include <stdint.h>
+
+#ifdef __cplusplus
+extern "C" {
+#endif
+
+/* Outputs of these sizes are never too short. */
+#define TPN_REPLAY_MAX 1280
+#define TPN_ROUND_MAX 2048
+#define TPN_TIMETABLE_MAX 2048
+#define TPN_PROCESS_MAX 22001
+
+/* Refusals. Place: the line within its card from 1 for 1 to 4, the firing from 1 for 5 to 8, 0 for 9. */
+enum {
+    TPN_MALFORMED = 1,
+    TPN_OUT_OF_RANGE = 2,
+    TPN_LATEST_BELOW_EARLIEST = 3,
+    TPN_NO_SUCH_TRANSITION = 4,
+    TPN_NOT_ENABLED = 5,
+    TPN_TOO_MANY_TOKENS = 6,
+    TPN_OUTSIDE_INTERVAL = 7,
+    TPN_UNTIMABLE = 8,
+    TPN_OUTPUT_TOO_SHORT = 9
+};
+
+int64_t tpn_replay(const uint8_t *input, size_t input_length, uint8_t *output, size_t output_length);
+int64_t tpn_round(const uint8_t *input, size_t input_length, uint8_t *output, size_t output_length);
+int64_t tpn_timetable(const uint8_t *input, size_t input_length, uint8_t *output, size_t output_length);
+int64_t tpn_process(const uint8_t *input, size_t input_length, uint8_t *output, size_t output_length);
+
+/* The number and the place of a refusal; 0 for an answer. */
+static inline int tpn_number(int64_t result) { return result < 0 ? (int)(-result / 65536) : 0; }
+static inline int tpn_place(int64_t result) { return result < 0 ? (int)(-result % 65536) : 0; }
+
+#ifdef __cplusplus
+}
+#endif
+
+#endif
