@@ -14,7 +14,7 @@ ghost use lib.ListN.{length, getD, replicate};
 ghost use Rattle.laws.specs.Slots.{firstOf};
 ghost use Rattle.laws.specs.Splice.{spliced};
 ghost use Rattle.laws.specs.Tabled.{tabled};
-ghost use Rattle.firing.specs.Rows.{Holds, enoughIn, limitIn, timely, Moves, restartIn, judgedIn, FiredIn, playedAs};
+ghost use Rattle.firing.specs.Rows.{Holds, enoughIn, limitIn, timely, Moves, lookedAt, restartIn, judgedIn, FiredIn, playedAs};
 ghost use Rattle.firing.specs.Replay.{ruleOf, startState, play, firingsOf};
 
 // A state of a net: the tokens of each place, the instant at which each transition's clock last restarted, and the present instant, in parts of a tick.
@@ -57,6 +57,22 @@ pub fn enough(take: &[u32], row: usize, marking: &[u32], places: usize) -> bool
         if marking[p] < take[row + p] {
             ok = false;
             break 'places;
+        }
+        p += 1;
+    }
+    ok
+}
+
+// The same, of all places: without a way out of the loop the machine compares several places at once, which is quicker where many rows are asked for.
+fn covered(take: &[u32], row: usize, marking: &[u32], places: usize) -> bool
+    requires { ⌜ (row + places ≤ length (now take)) × (places ≤ length (now marking)) ⌝ }
+    ensures { λ r. ⌜ r ≡ enoughIn (now (take .entry)) row (now (marking .entry)) places ⌝ }
+{
+    let mut ok = true;
+    let mut p: usize = 0;
+    while p < places {
+        if marking[p] < take[row + p] {
+            ok = false;
         }
         p += 1;
     }
@@ -126,7 +142,25 @@ fn move_tokens<'a>(
     Moved { middle, later }
 }
 
-// Whether the clock of u restarts when t fires.
+// Whether a transition is enabled where the memory word looks: after the taking, or before it.
+fn stays<'a>(
+    take: &[u32],
+    before: &'a [u32],
+    middle: &'a [u32],
+    places: usize,
+    memory: Memory,
+    u: usize,
+) -> bool
+    requires { ⌜ (u < 32) × (places ≤ 16) × (length (now take) ≡ 512) × (length (now before) ≡ 16) × (length (now middle) ≡ 16) ⌝ }
+    ensures { λ r. ⌜ r ≡ enoughIn (now (take .entry)) (16 * u) (lookedAt memory (now (before .entry)) (now (middle .entry))) places ⌝ }
+{
+    match memory {
+        Memory::Intermediate => covered(take, 16 * u, middle, places),
+        Memory::Atomic => covered(take, 16 * u, before, places),
+    }
+}
+
+// Whether the clock of u restarts when t fires. Most transitions stay enabled and are settled by one scan.
 fn restarts<'a>(
     take: &[u32],
     before: &'a [u32],
@@ -140,17 +174,13 @@ fn restarts<'a>(
     requires { ⌜ (u < 32) × (places ≤ 16) × (length (now take) ≡ 512) × (length (now before) ≡ 16) × (length (now middle) ≡ 16) × (length (now later) ≡ 16) ⌝ }
     ensures { λ r. ⌜ r ≡ restartIn (now (take .entry)) (now (before .entry)) (now (middle .entry)) (now (later .entry)) places memory t u ⌝ }
 {
-    if enough(take, 16 * u, later, places) {
-        if u == t {
-            return true;
-        }
-        match memory {
-            Memory::Intermediate => !enough(take, 16 * u, middle, places),
-            Memory::Atomic => !enough(take, 16 * u, before, places),
-        }
-    } else {
-        false
+    if u == t {
+        return covered(take, 16 * u, later, places);
     }
+    if stays(take, before, middle, places, memory, u) {
+        return false;
+    }
+    covered(take, 16 * u, later, places)
 }
 
 // The instants of the last restarts after a firing of t.

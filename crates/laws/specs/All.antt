@@ -3,7 +3,7 @@ use Prim.Native.Nat.{ℕ, zero, suc, _+_, _<_}
 use native.Mathlib.Nat.{le-of-suc-le-suc, not-suc-le-zero, eq-or-lt-of-le, lt-trans, lt-suc-self}
 use native.Mathlib.Numerals.{add-one}
 use native.Mathlib.Omega.{arith}
-use mathlib.Core.Bool.{Bool, true, false, _&&_, and-false, and-eq-true-iff}
+use mathlib.Core.Bool.{Bool, true, false, _&&_, and-false, and-true, and-eq-true-iff}
 use mathlib.Core.Path.{_≡_, refl}
 use mathlib.Core.Logic.{⊎-elim}
 
@@ -17,6 +17,11 @@ module _ (f : ℕ → Bool) where
   pub all-more : (n : ℕ) → allBelow f n ≡ true → f n ≡ true → allBelow f (n + 1) ≡ true
   unfolding allBelow
   all-more n a h = rw (add-one, a) h
+
+  -- what the last one that holds adds
+  pub all-last : (n : ℕ) → f n ≡ true → allBelow f (suc n) ≡ allBelow f n
+  unfolding allBelow
+  all-last n h = rw h (and-true (allBelow f n))
 
   last-fails : (p n : ℕ) → p ≡ n → f p ≡ false → (allBelow f n && f n) ≡ false
   last-fails p n q e = rw (← q, e) (and-false (allBelow f p))
