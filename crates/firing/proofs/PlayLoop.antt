@@ -21,7 +21,7 @@ use Rattle.firing.specs.declared.Played.{Played}
 use Rattle.firing.specs.declared.Rows.{Rows}
 use Rattle.firing.specs.Semantics.{startMarking}
 use Rattle.firing.specs.Replay.{ruleOf, startState, waited, fired, judged, stepOn, play, firingsOf}
-use Rattle.firing.specs.Rows.{Holds, judgedIn, FiredIn, standing, playedAs}
+use Rattle.firing.specs.Rows.{HoldsWithin, judgedIn, FiredIn, standing, playedAs}
 use Rattle.firing.proofs.Clocks.{Past, past-waited, past-fired}
 use Rattle.firing.proofs.Accept.{start-past}
 use Rattle.firing.proofs.RowLaws.{unlisted, judged-same, fired-same}
@@ -93,7 +93,7 @@ module _ (net : Net) (run : Run) where
     pub playing-unlisted : i < run .count → net .transitions ≤ next .fire → result (record { checked = Refused (NotEnabled (i + 1)); state = st }) ≡ whole
     playing-unlisted l h = refuses (NotEnabled (i + 1)) l (unlisted net (run .denominator) (counted later) (next .fire) (i + 1) h)
 
-    module _ (rows : Rows) (held : Holds rows (net .table) (net .transitions)) (few : net .places ≤ 16) (l : i < run .count) (listed : next .fire < net .transitions)
+    module _ (rows : Rows) (held : HoldsWithin rows (net .table) (net .transitions) (net .places)) (l : i < run .count) (listed : next .fire < net .transitions)
         (slot : net .transitions ≤ 32) (d : Transition) (c : Checked)
         (is : c ≡ judgedIn (rows .take) (rows .give) (getD (net .table) (next .fire) d) later (net .places) (run .denominator) (next .fire) (i + 1)) where
       judgement : c ≡ judged net (run .denominator) (counted later) (next .fire) (i + 1)
@@ -101,7 +101,7 @@ module _ (net : Net) (run : Run) where
           is
           ∙ ap (λ (x : Transition). judgedIn (rows .take) (rows .give) x later (net .places) (run .denominator) (next .fire) (i + 1))
           (getD-within (net .table) (next .fire) d noTransition (omega (arith, held .full)))
-          ∙ judged-same net rows held few later (next .fire) listed (run .denominator) (i + 1)
+          ∙ judged-same net rows held later (next .fire) listed (run .denominator) (i + 1)
 
       pub playing-refused : (r : Refusal) → c ≡ Refused r → result (record { checked = c; state = st }) ≡ whole
       playing-refused r e = rw e (refuses r l (sym judgement ∙ e))
@@ -110,7 +110,7 @@ module _ (net : Net) (run : Run) where
           → FiredIn (rows .take) (rows .give) later (net .places) (net .transitions) (run .memory) (next .fire) after → Playing after (i + 1)
       unfolding waited
       playing-more e short after f =
-          let same = fired-same net rows held few later (next .fire) listed (run .memory) after f in
+          let same = fired-same net rows held later (next .fire) listed (run .memory) after f in
           let rule = ruleOf net (run .memory) in
           record {
             within = omega arith;

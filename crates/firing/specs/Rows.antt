@@ -1,10 +1,10 @@
 -- What the functions of this crate compute: the replay over weights held in rows of sixteen, one transition behind the other.
-use Prim.Native.Nat.{ℕ, _+_, _-_, _*_, _<_}
+use Prim.Native.Nat.{ℕ, _+_, _-_, _*_, _≤_, _<_}
 use mathlib.Core.Path.{_≡_}
 use mathlib.Core.Bool.{Bool, not, cond, _&&_, _||_}
 use mathlib.Core.List.{List}
 use lib.ListN.{length, getD}
-use lib.Dec.{leb, eqb}
+use lib.Dec.{leb, ltb, eqb}
 use Rattle.laws.specs.All.{allBelow}
 use Rattle.laws.specs.Slots.{firstOf}
 use Rattle.laws.specs.Tabled.{tabled}
@@ -26,6 +26,21 @@ pub record Holds (rows : Rows) (table : List Transition) (transitions : ℕ) : T
   pub full : length table ≡ 32
   pub taken : (t p : ℕ) → t < transitions → p < 16 → getD (rows .take) (16 * t + p) 0 ≡ getD (getD table t noTransition .take) p 0
   pub given : (t p : ℕ) → t < transitions → p < 16 → getD (rows .give) (16 * t + p) 0 ≡ getD (getD table t noTransition .give) p 0
+
+-- a row's weight, as far as the places go, and zero past them
+abbrev pub weightIn : ℕ → List ℕ → ℕ → ℕ
+weightIn places weights p = cond (ltb p places) (getD weights p 0) 0
+
+-- rows with zeros past the places
+abbrev pub Blank : List ℕ → ℕ → ℕ → Type 0
+Blank flat transitions places = (t p : ℕ) → t < transitions → places ≤ p → p < 16 → getD flat (16 * t + p) 0 ≡ 0
+
+-- rows hold the weights of the first transitions of a table of 32 at the first places, and zeros past those places
+pub record HoldsWithin (rows : Rows) (table : List Transition) (transitions places : ℕ) : Type 0 where
+  pub full : length table ≡ 32
+  pub taken : (t p : ℕ) → t < transitions → p < places → getD (rows .take) (16 * t + p) 0 ≡ getD (getD table t noTransition .take) p 0
+  pub given : (t p : ℕ) → t < transitions → p < places → getD (rows .give) (16 * t + p) 0 ≡ getD (getD table t noTransition .give) p 0
+  pub blank : Blank (rows .take) transitions places
 
 -- no place has fewer tokens than a row asks for
 unfoldable pub enoughIn : List ℕ → ℕ → List ℕ → ℕ → Bool

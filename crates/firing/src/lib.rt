@@ -14,7 +14,7 @@ ghost use lib.ListN.{length, getD, replicate};
 ghost use Rattle.laws.specs.Slots.{firstOf};
 ghost use Rattle.laws.specs.Splice.{spliced};
 ghost use Rattle.laws.specs.Tabled.{tabled};
-ghost use Rattle.firing.specs.Rows.{Holds, enoughIn, limitIn, timely, Moves, lookedAt, restartIn, judgedIn, FiredIn, playedAs};
+ghost use Rattle.firing.specs.Rows.{Holds, HoldsWithin, Blank, weightIn, enoughIn, limitIn, timely, Moves, lookedAt, restartIn, judgedIn, FiredIn, playedAs};
 ghost use Rattle.firing.specs.Replay.{ruleOf, startState, play, firingsOf};
 
 // A state of a net: the tokens of each place, the instant at which each transition's clock last restarted, and the present instant, in parts of a tick.
@@ -63,14 +63,15 @@ pub fn enough(take: &[u32], row: usize, marking: &[u32], places: usize) -> bool
     ok
 }
 
-// The same, of all places: without a way out of the loop the machine compares several places at once, which is quicker where many rows are asked for.
-fn covered(take: &[u32], row: usize, marking: &[u32], places: usize) -> bool
-    requires { ⌜ (row + places ≤ length (now take)) × (places ≤ length (now marking)) ⌝ }
-    ensures { λ r. ⌜ r ≡ enoughIn (now (take .entry)) row (now (marking .entry)) places ⌝ }
+// The same, of all sixteen slots: without a way out of the loop, and with a number of turns that the compiler knows, the machine compares several places at
+// once, which is quicker where many rows are asked for. Rows with zeros past the places ask nothing there.
+fn covered(take: &[u32], row: usize, marking: &[u32]) -> bool
+    requires { ⌜ (row + 16 ≤ length (now take)) × (16 ≤ length (now marking)) ⌝ }
+    ensures { λ r. ⌜ r ≡ enoughIn (now (take .entry)) row (now (marking .entry)) 16 ⌝ }
 {
     let mut ok = true;
     let mut p: usize = 0;
-    while p < places {
+    while p < 16 {
         if marking[p] < take[row + p] {
             ok = false;
         }
@@ -143,20 +144,13 @@ fn move_tokens<'a>(
 }
 
 // Whether a transition is enabled where the memory word looks: after the taking, or before it.
-fn stays<'a>(
-    take: &[u32],
-    before: &'a [u32],
-    middle: &'a [u32],
-    places: usize,
-    memory: Memory,
-    u: usize,
-) -> bool
-    requires { ⌜ (u < 32) × (places ≤ 16) × (length (now take) ≡ 512) × (length (now before) ≡ 16) × (length (now middle) ≡ 16) ⌝ }
-    ensures { λ r. ⌜ r ≡ enoughIn (now (take .entry)) (16 * u) (lookedAt memory (now (before .entry)) (now (middle .entry))) places ⌝ }
+fn stays<'a>(take: &[u32], before: &'a [u32], middle: &'a [u32], memory: Memory, u: usize) -> bool
+    requires { ⌜ (u < 32) × (length (now take) ≡ 512) × (length (now before) ≡ 16) × (length (now middle) ≡ 16) ⌝ }
+    ensures { λ r. ⌜ r ≡ enoughIn (now (take .entry)) (16 * u) (lookedAt memory (now (before .entry)) (now (middle .entry))) 16 ⌝ }
 {
     match memory {
-        Memory::Intermediate => covered(take, 16 * u, middle, places),
-        Memory::Atomic => covered(take, 16 * u, before, places),
+        Memory::Intermediate => covered(take, 16 * u, middle),
+        Memory::Atomic => covered(take, 16 * u, before),
     }
 }
 
@@ -166,21 +160,20 @@ fn restarts<'a>(
     before: &'a [u32],
     middle: &'a [u32],
     later: &'a [u32],
-    places: usize,
     memory: Memory,
     t: usize,
     u: usize,
 ) -> bool
-    requires { ⌜ (u < 32) × (places ≤ 16) × (length (now take) ≡ 512) × (length (now before) ≡ 16) × (length (now middle) ≡ 16) × (length (now later) ≡ 16) ⌝ }
-    ensures { λ r. ⌜ r ≡ restartIn (now (take .entry)) (now (before .entry)) (now (middle .entry)) (now (later .entry)) places memory t u ⌝ }
+    requires { ⌜ (u < 32) × (length (now take) ≡ 512) × (length (now before) ≡ 16) × (length (now middle) ≡ 16) × (length (now later) ≡ 16) ⌝ }
+    ensures { λ r. ⌜ r ≡ restartIn (now (take .entry)) (now (before .entry)) (now (middle .entry)) (now (later .entry)) 16 memory t u ⌝ }
 {
     if u == t {
-        return covered(take, 16 * u, later, places);
+        return covered(take, 16 * u, later);
     }
-    if stays(take, before, middle, places, memory, u) {
+    if stays(take, before, middle, memory, u) {
         return false;
     }
-    covered(take, 16 * u, later, places)
+    covered(take, 16 * u, later)
 }
 
 // The instants of the last restarts after a firing of t.
@@ -188,13 +181,12 @@ fn restarted(
     take: &[u32],
     st: State,
     m: Moved,
-    places: usize,
     transitions: usize,
     memory: Memory,
     t: usize,
 ) -> [u64; 32]
-    requires { ⌜ (places ≤ 16) × (transitions ≤ 32) × (length (now take) ≡ 512) ⌝ }
-    ensures { λ r. ⌜ firstOf transitions 0 r ≡ tabled (λ (u : ℕ). cond (restartIn (now (take .entry)) (st .marking) (m .middle) (m .later) places memory t u) (st .now) (getD (st .since) u 0)) 0 transitions ⌝ }
+    requires { ⌜ (transitions ≤ 32) × (length (now take) ≡ 512) ⌝ }
+    ensures { λ r. ⌜ firstOf transitions 0 r ≡ tabled (λ (u : ℕ). cond (restartIn (now (take .entry)) (st .marking) (m .middle) (m .later) 16 memory t u) (st .now) (getD (st .since) u 0)) 0 transitions ⌝ }
 {
     let mut since = st.since;
     let now = st.now;
@@ -203,7 +195,7 @@ fn restarted(
     let later = m.later;
     let mut u: usize = 0;
     while u < transitions {
-        if restarts(take, &before, &middle, &later, places, memory, t, u) {
+        if restarts(take, &before, &middle, &later, memory, t, u) {
             since[u] = now;
         }
         u += 1;
@@ -255,11 +247,12 @@ pub fn fire<'a>(
 ) -> State
     requires { ⌜ (places ≤ 16) × (transitions ≤ 32) × (t < 32) × (length (now take) ≡ 512) × (length (now give) ≡ 512) ⌝ }
     requires { ⌜ (enoughIn (now take) (16 * t) (st .marking) places ≡ true) × (limitIn (now take) (now give) (16 * t) (st .marking) places ≡ true) ⌝ }
+    requires { ⌜ Blank (now take) transitions places ⌝ }
     ensures { λ r. ⌜ FiredIn (now (take .entry)) (now (give .entry)) st places transitions memory t r ⌝ }
 {
     let marking = st.marking;
     let m = move_tokens(take, give, 16 * t, &marking, places);
-    let since = restarted(take, st, m, places, transitions, memory, t);
+    let since = restarted(take, st, m, transitions, memory, t);
     let later = m.later;
     State {
         marking: later,
@@ -280,10 +273,24 @@ fn put_row(flat: &mut [u32], row: usize, weights: [u32; 16])
     }
 }
 
-// The weights of a table's first transitions, in rows.
-pub fn rows_of(table: [Transition; 32], transitions: usize) -> Rows
-    requires { ⌜ transitions ≤ 32 ⌝ }
-    ensures { λ r. ⌜ Holds r table transitions ⌝ }
+// The first weights of a row, and zeros past them.
+fn cut(weights: [u32; 16], places: usize) -> [u32; 16]
+    requires { ⌜ places ≤ 16 ⌝ }
+    ensures { λ r. ⌜ ((p : ℕ) → p < 16 → getD r p 0 ≡ weightIn places weights p) ⌝ }
+{
+    let mut row = [0u32; 16];
+    let mut p: usize = 0;
+    while p < places {
+        row[p] = weights[p];
+        p += 1;
+    }
+    row
+}
+
+// The weights of a table's first transitions at the first places, in rows, with zeros past those places.
+pub fn rows_within(table: [Transition; 32], transitions: usize, places: usize) -> Rows
+    requires { ⌜ (transitions ≤ 32) × (places ≤ 16) ⌝ }
+    ensures { λ r. ⌜ HoldsWithin r table transitions places ⌝ }
 {
     let mut take = [0u32; 512];
     let mut give = [0u32; 512];
@@ -292,11 +299,21 @@ pub fn rows_of(table: [Transition; 32], transitions: usize) -> Rows
         let tr = table[t];
         let taken = tr.take;
         let given = tr.give;
-        put_row(&mut take, 16 * t, taken);
-        put_row(&mut give, 16 * t, given);
+        let row = cut(taken, places);
+        put_row(&mut take, 16 * t, row);
+        let row = cut(given, places);
+        put_row(&mut give, 16 * t, row);
         t += 1;
     }
     Rows { take, give }
+}
+
+// The weights of a table's first transitions, in rows.
+pub fn rows_of(table: [Transition; 32], transitions: usize) -> Rows
+    requires { ⌜ transitions ≤ 32 ⌝ }
+    ensures { λ r. ⌜ Holds r table transitions ⌝ }
+{
+    rows_within(table, transitions, 16)
 }
 
 // The start: the tokens of the net's start, every clock counted from instant 0.
@@ -324,7 +341,7 @@ pub fn play_run(net: Net, run: Run) -> Played
     let count = run.count;
     let memory = run.memory;
     let denominator = run.denominator;
-    let rows = rows_of(table, transitions);
+    let rows = rows_within(table, transitions, places);
     let take = rows.take;
     let give = rows.give;
     let mut st = start(tokens, places);

@@ -1,10 +1,10 @@
 -- A test of every number below a bound, and what a loop that is left at the first failure needs of it.
-use Prim.Native.Nat.{ℕ, zero, suc, _+_, _<_}
-use native.Mathlib.Nat.{le-of-suc-le-suc, not-suc-le-zero, eq-or-lt-of-le, lt-trans, lt-suc-self}
+use Prim.Native.Nat.{ℕ, zero, suc, _+_, _≤_, _<_}
+use native.Mathlib.Nat.{add-zero, add-suc, le-of-suc-le-suc, not-suc-le-zero, eq-or-lt-of-le, lt-trans, lt-suc-self}
 use native.Mathlib.Numerals.{add-one}
 use native.Mathlib.Omega.{arith}
 use mathlib.Core.Bool.{Bool, true, false, _&&_, and-false, and-true, and-eq-true-iff}
-use mathlib.Core.Path.{_≡_, refl}
+use mathlib.Core.Path.{_≡_, refl, ap, _∙_}
 use mathlib.Core.Logic.{⊎-elim}
 
 -- f holds of every number below n
@@ -22,6 +22,12 @@ module _ (f : ℕ → Bool) where
   pub all-last : (n : ℕ) → f n ≡ true → allBelow f (suc n) ≡ allBelow f n
   unfolding allBelow
   all-last n h = rw h (and-true (allBelow f n))
+
+  -- and what all that hold from a bound on add
+  pub all-past : (n k : ℕ) → ((p : ℕ) → n ≤ p → p < n + k → f p ≡ true) → allBelow f (n + k) ≡ allBelow f n
+  all-past n zero h = ap (allBelow f) (add-zero n)
+  all-past n (suc k) h =
+      ap (allBelow f) (add-suc n k) ∙ all-last (n + k) (h (n + k) (omega arith) (omega arith)) ∙ all-past n k (λ p a b. h p a (omega arith))
 
   last-fails : (p n : ℕ) → p ≡ n → f p ≡ false → (allBelow f n && f n) ≡ false
   last-fails p n q e = rw (← q, e) (and-false (allBelow f p))

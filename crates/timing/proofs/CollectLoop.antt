@@ -28,7 +28,7 @@ use Rattle.firing.specs.declared.State.{State}
 use Rattle.firing.specs.declared.Rows.{Rows}
 use Rattle.firing.specs.Semantics.{Restart, startMarking, transitionAt, enabled, after}
 use Rattle.firing.specs.Replay.{ruleOf, waited, fired}
-use Rattle.firing.specs.Rows.{Holds, enoughIn, limitIn, FiredIn, standing}
+use Rattle.firing.specs.Rows.{HoldsWithin, enoughIn, limitIn, FiredIn, standing}
 use Rattle.firing.proofs.PlayLoop.{start-standing}
 use Rattle.firing.proofs.RowLaws.{enough-same, limit-same, fired-same}
 use Rattle.timing.specs.declared.Bound.{Bound}
@@ -45,10 +45,10 @@ unfolding tokensJudged enabled
 unlisted-tokens net m t n l = rw (le-ltb t (net .transitions) l) refl
 
 -- the judgement over rows is that over the net
-tokens-same : (net : Net) (rows : Rows) → Holds rows (net .table) (net .transitions) → net .places ≤ 16 → (m : List ℕ) (t n : ℕ) → t < net .transitions
+tokens-same : (net : Net) (rows : Rows) → HoldsWithin rows (net .table) (net .transitions) (net .places) → (m : List ℕ) (t n : ℕ) → t < net .transitions
     → tokensIn (rows .take) (rows .give) m (net .places) t n ≡ tokensJudged net (firstOf (net .places) 0 m) t n
 unfolding tokensIn tokensJudged
-tokens-same net rows held few m t n l = rw (enough-same net rows held few m t l, limit-same net rows held few m t l) refl
+tokens-same net rows held m t n l = rw (enough-same net rows held m t l, limit-same net rows held m t l) refl
 
 -- what a passed judgement says
 pub allowed-tokens : (take give m : List ℕ) (places t n : ℕ) → tokensIn take give m places t n ≡ Passed
@@ -152,10 +152,10 @@ module _ (net : Net) (order : Order) where
       pub collecting-unlisted : net .transitions ≤ next → Collects net rule whole (result (Refused (NotEnabled (i + 1))))
       collecting-unlisted h = refuses (NotEnabled (i + 1)) (unlisted-tokens net (counted st .marking) next (i + 1) h)
 
-      module _ (rows : Rows) (holds : Holds rows (net .table) (net .transitions)) (few : net .places ≤ 16) (listed : next < net .transitions) (c : Checked)
+      module _ (rows : Rows) (holds : HoldsWithin rows (net .table) (net .transitions) (net .places)) (listed : next < net .transitions) (c : Checked)
           (is : c ≡ tokensIn (rows .take) (rows .give) (st .marking) (net .places) next (i + 1)) where
         judgement : c ≡ tokensJudged net (counted st .marking) next (i + 1)
-        judgement = is ∙ tokens-same net rows holds few (st .marking) next (i + 1) listed
+        judgement = is ∙ tokens-same net rows holds (st .marking) next (i + 1) listed
 
         pub collecting-refused : (r : Refusal) → c ≡ Refused r → Collects net rule whole (result c)
         collecting-refused r e = rw e (refuses r (sym judgement ∙ e))
@@ -192,7 +192,7 @@ module _ (net : Net) (order : Order) where
               → Collecting (set origin i (getD (st .since) next 0)) (set low i (tr .earliest)) (set closed i (b .closed)) (set high i (b .high)) then (i + 1)
           unfolding fired found
           collecting-more e short then f =
-              let same = fired-same net rows holds few later next listed (order .memory) then f in
+              let same = fired-same net rows holds later next listed (order .memory) then f in
               let (a₁, a₂, a₃, a₄) = s .long in
               record {
                 within = omega arith;

@@ -154,7 +154,7 @@ pub fn collect(net: Net, order: Order) -> Collected
     let mut low = [0u64; 64];
     let mut closed = [false; 64];
     let mut high = [0u64; 64];
-    let rows = firing::rows_of(table, transitions);
+    let rows = firing::rows_within(table, transitions, places);
     let take = rows.take;
     let give = rows.give;
     let mut st = firing::start(tokens, places);

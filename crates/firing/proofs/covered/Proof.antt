@@ -9,13 +9,13 @@ use Rattle.firing.proofs.covered.Statement.{statement}
 use Rattle.firing.proofs.covered.Tie as tie
 
 abbrev Inv-loop : tie.InvT-loop
-Inv-loop take row marking places ok₀ p₀ ok p = Asked (hasEnough take row marking) places ok p
+Inv-loop take row marking ok₀ p₀ ok p = Asked (hasEnough take row marking) 16 ok p
 
 abbrev μ-loop : tie.MeasureT-loop
-μ-loop take row marking places ok₀ p₀ ok p = places - p
+μ-loop take row marking ok₀ p₀ ok p = 16 - p
 
 loop-holds : tie.Need-loop-holds Inv-loop μ-loop
-loop-holds c = asked-start (hasEnough (c .args .take .now) (c .args .row) (c .args .marking .now)) (c .args .places)
+loop-holds c = asked-start (hasEnough (c .args .take .now) (c .args .row) (c .args .marking .now)) 16
 
 mul-if1 : tie.Need-mul-if1 Inv-loop μ-loop
 mul-if1 c = search needs

@@ -16,7 +16,7 @@ Inv-loop net run places transitions count memory denominator take give st₀ i�
 abbrev μ-loop : tie.MeasureT-loop
 μ-loop net run places transitions count memory denominator take give st₀ i₀ st i = count - i
 
-rows-long : (w : tie.After-rows-of Inv-loop μ-loop) → (length (w .rows-of .result .take) ≡ 512) × (length (w .rows-of .result .give) ≡ 512)
+rows-long : (w : tie.After-rows-within Inv-loop μ-loop) → (length (w .rows-within .result .take) ≡ 512) × (length (w .rows-within .result .give) ≡ 512)
 rows-long w = search needs
 
 wait-short : (k : tie.After-struct-known2 Inv-loop μ-loop) →
@@ -26,8 +26,8 @@ wait-short k = omega arith
 not-late : (b : tie.At-loop Inv-loop μ-loop) → b .loop .st .now ≤ 64 * 4294967295
 not-late b = omega (arith, b .loop .inv .soon, b .loop .inv .within, b .before .before .before .before .before .before .before .pre)
 
-rows-of-requires : tie.Need-rows-of-requires Inv-loop μ-loop
-rows-of-requires c κs = search needs
+rows-within-requires : tie.Need-rows-within-requires Inv-loop μ-loop
+rows-within-requires c κs = search needs
 
 start-requires : tie.Need-start-requires Inv-loop μ-loop
 start-requires c κs = search needs
@@ -105,7 +105,7 @@ returns-2 c =
     let b = l .before in
     let w = b .before .before .before .before in
     let s = w .before .before .before in (
-      playing-refused (s .args .t1) (s .args .t2) (b .loop .st) (b .loop .i) (b .loop .inv) (w .rows-of .result) (w .rows-of .ensures) (s .pre .0) (l .loop-test .taken) (e .if1 .left)
+      playing-refused (s .args .t1) (s .args .t2) (b .loop .st) (b .loop .i) (b .loop .inv) (w .rows-within .result) (w .rows-within .ensures) (l .loop-test .taken) (e .if1 .left)
           (s .pre .1) _ (j .judge .result) (j .judge .ensures) _ (c .enum-told2 .given .1),
       not-late b,
     )
@@ -124,7 +124,7 @@ fire-requires c κs =
     let w = e .before .before .before .before .before .before .before .before .before .before in
     let s = w .before .before .before in (
       (s .pre .0, s .pre .1, omega (arith, e .if1 .left, s .pre), rows-long w .0, rows-long w .1),
-      passed-tokens _ _ _ _ _ _ _ _ (sym (j .judge .ensures) ∙ p .enum-told .given .1),
+      (passed-tokens _ _ _ _ _ _ _ _ (sym (j .judge .ensures) ∙ p .enum-told .given .1), w .rows-within .ensures .blank),
     )
 
 add-i : tie.Need-add-i Inv-loop μ-loop
@@ -145,7 +145,7 @@ loop-again c =
     let b = l .before in
     let w = b .before .before .before .before in
     let s = w .before .before .before in
-    playing-more (s .args .t1) (s .args .t2) (b .loop .st) (b .loop .i) (b .loop .inv) (w .rows-of .result) (w .rows-of .ensures) (s .pre .0) (l .loop-test .taken) (e .if1 .left)
+    playing-more (s .args .t1) (s .args .t2) (b .loop .st) (b .loop .i) (b .loop .inv) (w .rows-within .result) (w .rows-within .ensures) (l .loop-test .taken) (e .if1 .left)
     (s .pre .1) _ (j .judge .result) (j .judge .ensures) (p .enum-told .given .1) (wait-short k) (c .fire .result) (c .fire .ensures)
 
 returns-3 : tie.Need-returns-3 Inv-loop μ-loop
@@ -160,7 +160,7 @@ play-run-spec =
     (tie.spec
     Inv-loop
     μ-loop
-    rows-of-requires
+    rows-within-requires
     start-requires
     loop-holds
     mul-f

@@ -12,11 +12,11 @@ use Rattle.firing.proofs.restarted.Statement.{statement}
 use Rattle.firing.proofs.restarted.Tie as tie
 
 abbrev Inv-loop : tie.InvT-loop
-Inv-loop take places transitions memory t since₀ now before middle later u₀ since u =
-    (u ≤ transitions) × Filled 0 since₀ (renewed since₀ (restartIn take before middle later places memory t) now) u since
+Inv-loop take transitions memory t since₀ now before middle later u₀ since u =
+    (u ≤ transitions) × Filled 0 since₀ (renewed since₀ (restartIn take before middle later 16 memory t) now) u since
 
 abbrev μ-loop : tie.MeasureT-loop
-μ-loop take places transitions memory t since₀ now before middle later u₀ since u = transitions - u
+μ-loop take transitions memory t since₀ now before middle later u₀ since u = transitions - u
 
 since-long : (s : tie.Start Inv-loop μ-loop) → length (s .args .st .since) ≡ 32
 since-long s = search needs
@@ -24,7 +24,7 @@ since-long s = search needs
 loop-holds : tie.Need-loop-holds Inv-loop μ-loop
 loop-holds c =
     let a = c .before .before .before .before .before .args in
-    (search needs, fill-start 0 (a .st .since) (renewed (a .st .since) (restartIn (a .take .now) (a .st .marking) (a .m .middle) (a .m .later) (a .places) (a .memory) (a .t)) (a .st .now)))
+    (search needs, fill-start 0 (a .st .since) (renewed (a .st .since) (restartIn (a .take .now) (a .st .marking) (a .m .middle) (a .m .later) 16 (a .memory) (a .t)) (a .st .now)))
 
 slice-aggregate-restarts : tie.Need-slice-aggregate-restarts Inv-loop μ-loop
 slice-aggregate-restarts c = search needs
@@ -57,7 +57,7 @@ loop-again c =
     let s = b .before .before .before .before .before .before in
     let a = s .args in
     let long : length (a .st .since) ≡ 32 = since-long s in
-    let tests : ℕ → Bool = restartIn (a .take .now) (a .st .marking) (a .m .middle) (a .m .later) (a .places) (a .memory) (a .t) in (
+    let tests : ℕ → Bool = restartIn (a .take .now) (a .st .marking) (a .m .middle) (a .m .later) 16 (a .memory) (a .t) in (
       search needs,
       ⊎-elim
           (λ w. renew-one (a .st .since) tests (a .st .now) (b .loop .u) (b .loop .since) (c .if1 .since) (b .loop .inv .1) (sym (r .restarts .ensures) ∙ w .0 .taken) (omega arith) (w .1))

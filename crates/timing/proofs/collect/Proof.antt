@@ -15,11 +15,11 @@ Inv-loop net order places transitions count memory origin₀ low₀ closed₀ hi
 abbrev μ-loop : tie.MeasureT-loop
 μ-loop net order places transitions count memory origin₀ low₀ closed₀ high₀ take give st₀ i₀ origin low closed high st i = count - i
 
-rows-long : (w : tie.After-rows-of Inv-loop μ-loop) → (length (w .rows-of .result .take) ≡ 512) × (length (w .rows-of .result .give) ≡ 512)
+rows-long : (w : tie.After-rows-within Inv-loop μ-loop) → (length (w .rows-within .result .take) ≡ 512) × (length (w .rows-within .result .give) ≡ 512)
 rows-long w = search needs
 
-rows-of-requires : tie.Need-rows-of-requires Inv-loop μ-loop
-rows-of-requires c κs = search needs
+rows-within-requires : tie.Need-rows-within-requires Inv-loop μ-loop
+rows-within-requires c κs = search needs
 
 start-requires : tie.Need-start-requires Inv-loop μ-loop
 start-requires c κs = search needs
@@ -81,7 +81,7 @@ returns-2 c =
     let s = w .before .before .before in
     let v = b .loop in
     collecting-refused (s .args .t1) (s .args .t2) (v .origin) (v .low) (v .closed) (v .high) (v .st) (v .i) (v .inv) (l .loop-test .taken) (x .index .result)
-    (x .index .ensures) (w .rows-of .result) (w .rows-of .ensures) (s .pre .0) (e .if1 .left) (j .judge-tokens .result) (j .judge-tokens .ensures) _ (c .enum-told2 .given .1)
+    (x .index .ensures) (w .rows-within .result) (w .rows-within .ensures) (e .if1 .left) (j .judge-tokens .result) (j .judge-tokens .ensures) _ (c .enum-told2 .given .1)
 
 mul-tr : tie.Need-mul-tr Inv-loop μ-loop
 mul-tr c = search needs
@@ -146,7 +146,7 @@ fire-requires c κs =
     let w = b .before .before .before .before in
     let s = w .before .before .before in (
       (s .pre .0, s .pre .1, omega (arith, e .if1 .left, s .pre), rows-long w .0, rows-long w .1),
-      allowed-tokens _ _ _ _ _ _ (sym (j .judge-tokens .ensures) ∙ p .enum-told .given .1),
+      (allowed-tokens _ _ _ _ _ _ (sym (j .judge-tokens .ensures) ∙ p .enum-told .given .1), w .rows-within .ensures .blank),
     )
 
 add-i : tie.Need-add-i Inv-loop μ-loop
@@ -168,7 +168,7 @@ loop-again c =
     let s = w .before .before .before in
     let v = b .loop in
     collecting-more (s .args .t1) (s .args .t2) (v .origin) (v .low) (v .closed) (v .high) (v .st) (v .i) (v .inv) (l .loop-test .taken) (x .index .result)
-    (x .index .ensures) (w .rows-of .result) (w .rows-of .ensures) (s .pre .0) (e .if1 .left) (j .judge-tokens .result) (j .judge-tokens .ensures) (s .pre .1) _
+    (x .index .ensures) (w .rows-within .result) (w .rows-within .ensures) (e .if1 .left) (j .judge-tokens .result) (j .judge-tokens .ensures) (s .pre .1) _
     (n .bound-of .result) (n .bound-of .ensures) (p .enum-told .given .1) (s .pre .2) (c .fire .result) (c .fire .ensures)
 
 returns-3 : tie.Need-returns-3 Inv-loop μ-loop
@@ -184,7 +184,7 @@ collect-spec =
     (tie.spec
     Inv-loop
     μ-loop
-    rows-of-requires
+    rows-within-requires
     start-requires
     loop-holds
     mul-index
