@@ -120,7 +120,7 @@ fn items_at(s: &[u8], at: usize, count: usize, line: usize) -> Numbers
     let mut next = at;
     let mut i: usize = 0;
     while i < count {
-        let n = text::field_at(s, next, i + 1 == count);
+        let n = text::item_at(s, next, i + 1 == count);
         let NumberRead::Value { value, next: after } = n else {
             return no_numbers(Refusal::Malformed(line));
         };

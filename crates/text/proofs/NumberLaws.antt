@@ -182,7 +182,7 @@ number-split n at next s = go (wellFormed ds) refl
     go false e q = let z : _≡_ {A = ℕ} 0 1 = cc in absurd (omega arith)
 
 -- ---- a number with its separator at a position
-separator-stops : (last : Bool) → isDigit (separator last) ≡ false
+pub separator-stops : (last : Bool) → isDigit (separator last) ≡ false
 separator-stops true = refl
 separator-stops false = refl
 

@@ -19,7 +19,8 @@ use Rattle.text.specs.declared.ByteClass.{ByteClass}
 use Rattle.text.specs.declared.ByteClass.the-variants.{Digit, Comma, LineEnd, Other}
 use Rattle.text.specs.Number.{isDigit, classOf, digitsOf, valueOf, numberOf, numberAt, separator, fieldAt}
 use Rattle.text.specs.Key.{beginsWith}
-use Rattle.text.proofs.NumberLaws.{digit-range}
+use Rattle.text.proofs.KeyLaws.{begins-split}
+use Rattle.text.proofs.NumberLaws.{digit-range, separator-stops}
 use Rattle.text.specs.declared.NumberRead.the-variants.{Value, NoNumber}
 
 -- ---- what a class says of the byte
@@ -62,6 +63,10 @@ digits-end s i l = rw (drop-of-length-le s l) refl
 value-more : (v d : ℕ) (ds : List ℕ) → valueOf v (d ∷ ds) ≡ valueOf (v * 10 + d) ds
 unfolding valueOf
 value-more v d ds = refl
+
+value-one : (d : ℕ) → valueOf 0 (d ∷ []) ≡ d
+unfolding valueOf
+value-one d = omega arith
 
 value-none : (v : ℕ) → valueOf v [] ≡ v
 unfolding valueOf
@@ -147,32 +152,9 @@ module _ (ds : List ℕ) (at v i : ℕ) where
 
 -- ---- the separator behind a number
 
--- whether a byte of a class is the separator
-abbrev pub separates : ByteClass → Bool → Bool
-separates (Digit d) last = false
-separates Comma last = not last
-separates LineEnd last = last
-separates Other last = false
-
-module _ (b : ℕ) where
-  class-separates : (last : Bool) → separates (classOf b) last ≡ eqb b (separator last)
-  class-separates last = go last (isDigit b) (eqb b 44) (eqb b 10) refl refl refl
-    where
-      go : (last t u w : Bool) → isDigit b ≡ t → eqb b 44 ≡ u → eqb b 10 ≡ w →
-          separates (cond t (Digit (b - 48)) (cond u Comma (cond w LineEnd Other))) last ≡ eqb b (separator last)
-      go true true u w p q r = let h = digit-range b p .0 in sym (ne-eqb b 10 (λ e. omega arith))
-      go false true u w p q r = let h = digit-range b p .0 in sym (ne-eqb b 44 (λ e. omega arith))
-      go true false true w p q r = let h = eqb-true b 44 q in sym (ne-eqb b 10 (λ e. omega arith))
-      go false false true w p q r = sym q
-      go true false false true p q r = sym r
-      go false false false true p q r = sym q
-      go true false false false p q r = sym r
-      go false false false false p q r = sym q
-
-pub separated-by-class : (s : List ℕ) (at : ℕ) (last : Bool) (k : ByteClass) → at < length s → classOf (getD s at 0) ≡ k → separates k last ≡ beginsWith (separator last ∷ []) (drop at s)
+pub separated-there : (s : List ℕ) (at : ℕ) (last : Bool) (b : ℕ) → at < length s → b ≡ separator last → eqb (getD s at 0) b ≡ beginsWith (separator last ∷ []) (drop at s)
 unfolding beginsWith
-separated-by-class s at last k h e =
-    rw (← e, drop-cons s at 0, and-true) (class-separates (getD s at 0) last)
+separated-there s at last b h e = rw (e, drop-cons s at 0, and-true) refl
 
 pub separated-short : (s : List ℕ) (at : ℕ) (last : Bool) → length s ≤ at → false ≡ beginsWith (separator last ∷ []) (drop at s)
 unfolding beginsWith
@@ -192,3 +174,18 @@ module _ (s : List ℕ) (at : ℕ) (last : Bool) where
     pub field-open : beginsWith (separator last ∷ []) (drop next s) ≡ false → NoNumber ≡ fieldAt s at last
     unfolding fieldAt
     field-open t = rw (e, t) refl
+
+-- one digit with its separator
+separator-ends : (s : List ℕ) (at : ℕ) (last : Bool) → beginsWith (separator last ∷ []) (drop at s) ≡ true → digitsOf (drop at s) ≡ []
+unfolding digitsOf
+separator-ends s at last t = rw (begins-split (separator last ∷ []) s at t .0, separator-stops last) refl
+
+pub field-one : (s : List ℕ) (at : ℕ) (last : Bool) → at < length s → 48 ≤ getD s at 0 → getD s at 0 ≤ 57
+    → beginsWith (separator last ∷ []) (drop (at + 1) s) ≡ true → Value (getD s at 0 - 48) (at + 2) ≡ fieldAt s at last
+field-one s at last l low high t =
+    let b = getD s at 0 in
+    let digit : isDigit b ≡ true = rw (le-leb 48 b low, le-leb b 57 high) refl in
+    let ds : digitsOf (drop at s) ≡ (b - 48) ∷ [] = digits-more s at l digit ∙ rw (separator-ends s (at + 1) last t) refl in
+    let number : Value (b - 48) (at + 1) ≡ numberAt s at = rw ds (says-one ((b - 48) ∷ []) at (b - 48) (at + 1) refl (value-one (b - 48)) refl) in
+    let two : at + 1 + 1 ≡ at + 2 = omega arith in
+    rw two at (field-closed s at last (b - 48) (at + 1) (sym number) t)

@@ -82,6 +82,37 @@ pub fn field_at(s: &[u8], at: usize, last: bool) -> NumberRead
     }
 }
 
+// The same, and quicker where the number has one digit, as most weights of a net.
+pub fn item_at(s: &[u8], at: usize, last: bool) -> NumberRead
+    ensures { λ r. ⌜ r ≡ fieldAt (now (s .entry)) at last ⌝ }
+{
+    if at < s.len() {
+        let b = s[at];
+        if 48 <= b {
+            if b <= 57 {
+                if separated(s, at + 1, last) {
+                    return NumberRead::Value {
+                        value: (b - 48) as u32,
+                        next: at + 2,
+                    };
+                }
+            }
+        }
+    }
+    field_at(s, at, last)
+}
+
+// What stands behind a number.
+fn separator_of(last: bool) -> u8
+    ensures { λ r. ⌜ r ≡ separator last ⌝ }
+{
+    if last {
+        10
+    } else {
+        44
+    }
+}
+
 // Whether the separator stands at a position.
 fn separated(s: &[u8], at: usize, last: bool) -> bool
     ensures { λ r. ⌜ r ≡ beginsWith (separator last ∷ []) (drop at (now (s .entry))) ⌝ }
@@ -89,27 +120,21 @@ fn separated(s: &[u8], at: usize, last: bool) -> bool
     if s.len() <= at {
         return false;
     }
-    let c = class_of(s[at]);
-    match c {
-        ByteClass::Comma => !last,
-        ByteClass::LineEnd => last,
-        ByteClass::Digit(_) => false,
-        ByteClass::Other => false,
-    }
+    s[at] == separator_of(last)
 }
 
 // Whether a key stands at a position.
 pub fn begins_at(s: &[u8], at: usize, key: &[u8]) -> bool
     ensures { λ r. ⌜ r ≡ beginsWith (now (key .entry)) (drop at (now (s .entry))) ⌝ }
 {
+    if s.len() <= at {
+        return key.len() == 0;
+    }
+    if s.len() - at < key.len() {
+        return false;
+    }
     let mut i: usize = 0;
     'bytes: while i < key.len() {
-        if s.len() <= at {
-            return false;
-        }
-        if s.len() - at <= i {
-            return false;
-        }
         if s[at + i] != key[i] {
             return false;
         }

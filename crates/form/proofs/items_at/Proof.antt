@@ -15,11 +15,11 @@ abbrev μ-loop : tie.MeasureT-loop
 loop-holds : tie.Need-loop-holds Inv-loop μ-loop
 loop-holds c = let a = c .before .args in reading-start (a .count) (a .s .now) (a .at) (a .line)
 
-add-field-at : tie.Need-add-field-at Inv-loop μ-loop
-add-field-at c = search needs
+add-item-at : tie.Need-add-item-at Inv-loop μ-loop
+add-item-at c = search needs
 
-field-at-requires : tie.Need-field-at-requires Inv-loop μ-loop
-field-at-requires c κs = search needs
+item-at-requires : tie.Need-item-at-requires Inv-loop μ-loop
+item-at-requires c κs = search needs
 
 enum-known-n : tie.Need-enum-known-n Inv-loop μ-loop
 enum-known-n c = search needs
@@ -36,7 +36,7 @@ returns c =
     let b = f .before .before in
     let a = b .before .before .args in
     c .no-numbers .ensures ∙
-    reading-fails (a .count) (a .s .now) (a .at) (a .line) (b .loop .items) _ _ (b .loop .inv) (f .before .loop-test .taken) (sym (f .field-at .ensures) ∙ c .before .enum-told .given .1)
+    reading-fails (a .count) (a .s .now) (a .at) (a .line) (b .loop .items) _ _ (b .loop .inv) (f .before .loop-test .taken) (sym (f .item-at .ensures) ∙ c .before .enum-told .given .1)
 
 mul-items : tie.Need-mul-items Inv-loop μ-loop
 mul-items c = search needs
@@ -55,7 +55,7 @@ loop-again c =
     let f = c .before .before .before in
     let b = f .before .before in
     let a = b .before .before .args in
-    reading-more (a .count) (a .s .now) (a .at) (a .line) (b .loop .items) _ _ (b .loop .inv) _ _ (f .before .loop-test .taken) (b .before .before .pre) (sym (f .field-at .ensures) ∙ c .before .n .given .1)
+    reading-more (a .count) (a .s .now) (a .at) (a .line) (b .loop .items) _ _ (b .loop .inv) _ _ (f .before .loop-test .taken) (b .before .before .pre) (sym (f .item-at .ensures) ∙ c .before .n .given .1)
 
 returns-2 : tie.Need-returns-2 Inv-loop μ-loop
 returns-2 c =
@@ -70,8 +70,8 @@ items-at-spec =
     Inv-loop
     μ-loop
     loop-holds
-    add-field-at
-    field-at-requires
+    add-item-at
+    item-at-requires
     enum-known-n
     enum-told
     no-numbers-requires

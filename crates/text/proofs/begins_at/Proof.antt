@@ -1,8 +1,9 @@
--- The loop keeps the state of the comparison (`Begins`); each way out answers what is left of the key.
+-- A key that is too long for what is left is told at once; else the loop keeps the state of the comparison (`Begins`), and each way out
+-- answers what is left of the key.
 use Prim.Native.Nat.{_-_}
 use lib.ListN.{length}
 use native.Mathlib.Omega.{arith}
-use Rattle.text.proofs.CompareKey.{Begins, begins-start, begins-more, begins-differs, begins-short, begins-all}
+use Rattle.text.proofs.CompareKey.{Begins, begins-start, begins-more, begins-differs, begins-behind, begins-longer, begins-all}
 use borrow.Author.Needs.{needs}
 use Rattle.text.proofs.begins_at.Statement.{statement}
 use Rattle.text.proofs.begins_at.Tie as tie
@@ -13,17 +14,21 @@ Inv-bytes s at key i₀ i = Begins s at key i
 abbrev μ-bytes : tie.MeasureT-bytes
 μ-bytes s at key i₀ i = length key - i
 
-bytes-holds : tie.Need-bytes-holds Inv-bytes μ-bytes
-bytes-holds c = begins-start _ _ _
-
 returns : tie.Need-returns Inv-bytes μ-bytes
-returns c = begins-short _ _ _ _ (c .before .before .bytes .inv) (c .before .bytes-test .taken) (omega arith)
+returns c =
+    let a = c .before .args in
+    begins-behind (a .s .now) (a .at) (a .key .now) (c .if1 .taken)
 
 sub-if2 : tie.Need-sub-if2 Inv-bytes μ-bytes
 sub-if2 c = search needs
 
 returns-2 : tie.Need-returns-2 Inv-bytes μ-bytes
-returns-2 c = begins-short _ _ _ _ (c .before .before .before .bytes .inv) (c .before .before .bytes-test .taken) (omega arith)
+returns-2 c =
+    let a = c .before .before .args in
+    begins-longer (a .s .now) (a .at) (a .key .now) (c .if2 .taken)
+
+bytes-holds : tie.Need-bytes-holds Inv-bytes μ-bytes
+bytes-holds c = begins-start _ _ _
 
 add-if3 : tie.Need-add-if3 Inv-bytes μ-bytes
 add-if3 c = search needs
@@ -35,7 +40,9 @@ shared-slice-read-if3-2 : tie.Need-shared-slice-read-if3-2 Inv-bytes μ-bytes
 shared-slice-read-if3-2 c = search needs
 
 returns-3 : tie.Need-returns-3 Inv-bytes μ-bytes
-returns-3 c = begins-differs _ _ _ _ (c .before .before .before .before .before .before .bytes .inv) (c .before .before .before .before .before .bytes-test .taken) (omega arith) (c .if3 .taken)
+returns-3 c =
+    let b = c .before .before .before in
+    begins-differs _ _ _ _ (b .before .bytes .inv) (b .bytes-test .taken) (omega arith) (c .if3 .taken)
 
 add-i : tie.Need-add-i Inv-bytes μ-bytes
 add-i c = search needs
@@ -44,7 +51,9 @@ bytes-less : tie.Need-bytes-less Inv-bytes μ-bytes
 bytes-less c = search needs
 
 bytes-again : tie.Need-bytes-again Inv-bytes μ-bytes
-bytes-again c = begins-more _ _ _ _ (c .before .before .before .before .before .before .bytes .inv) (c .before .before .before .before .before .bytes-test .taken) (omega arith) (c .if3 .left)
+bytes-again c =
+    let b = c .before .before .before in
+    begins-more _ _ _ _ (b .before .bytes .inv) (b .bytes-test .taken) (omega arith) (c .if3 .left)
 
 returns-4 : tie.Need-returns-4 Inv-bytes μ-bytes
 returns-4 c = begins-all _ _ _ _ (c .before .bytes .inv) (c .bytes-test .left)
@@ -55,10 +64,10 @@ begins-at-spec =
     (tie.spec
     Inv-bytes
     μ-bytes
-    bytes-holds
     returns
     sub-if2
     returns-2
+    bytes-holds
     add-if3
     shared-slice-read-if3
     shared-slice-read-if3-2
