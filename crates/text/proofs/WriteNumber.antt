@@ -2,7 +2,7 @@
 -- Its width is found from below: the first power of ten that is more than the number, and a number of 64 bits is less than 10 ^ 20.
 use Prim.Native.Nat.{ℕ, zero, suc, _+_, _-_, _*_, _/_, _%_, _^_, _≤_, _<_}
 use native.Mathlib.Numerals.{add-one}
-use native.Mathlib.Nat.{mod-lt, div-lt-iff-lt-mul, pow-suc, pow-le-pow-right, one-le-pow, add-zero, not-suc-le-zero}
+use native.Mathlib.Nat.{mod-lt, div-lt-iff-lt-mul, pow-suc, pow-le-pow-right, one-le-pow, add-zero, div-one, not-suc-le-zero}
 use native.Mathlib.Omega.{arith}
 use mathlib.Core.Bool.{Bool}
 use mathlib.Core.Logic.{_⊎_, inl, inr}
@@ -156,3 +156,17 @@ module _ (out₀ : List ℕ) (at n : ℕ) (last : Bool) (room : at + length (fie
         let r = field-room in
         let b = wrote-byte out to (separator last) separator-room in
         rw e (wrote-then out₀ at (decimal n) (separator last ∷ []) to (to + 1) out (set out to (separator last)) (omega arith) w b)
+
+-- ---- a number of one digit
+decimal-one : (n : ℕ) → n < 10 → decimal n ≡ (48 + n) ∷ []
+unfolding decimal digits
+decimal-one n h =
+    let w : 1 ≡ width 19 n = width-found n 1 (reached-start n) (omega arith) in
+    rw (← w) (ap (λ (d : ℕ). (48 + d) ∷ []) (div-one n))
+
+module _ (out : List ℕ) (at n : ℕ) (room : at + length (decimal n) ≤ length out) (h : n < 10) where
+  pub one-room : at < length out
+  one-room = let r = rw (decimal-one n h) at room in omega arith
+
+  pub one-written : Wrote out at (decimal n) (at + 1) (set out at (48 + n))
+  one-written = rw (decimal-one n h) (wrote-byte out at (48 + n) one-room)

@@ -106,11 +106,7 @@ pub fn item_at(s: &[u8], at: usize, last: bool) -> NumberRead
 fn separator_of(last: bool) -> u8
     ensures { λ r. ⌜ r ≡ separator last ⌝ }
 {
-    if last {
-        10
-    } else {
-        44
-    }
+    if last { 10 } else { 44 }
 }
 
 // Whether the separator stands at a position.
@@ -194,6 +190,18 @@ fn width_of(n: u64) -> usize
 
 // A number written at a position, its highest digit first; the position behind it.
 pub fn put_number(out: &mut [u8], at: usize, n: u64) -> usize
+    requires { ⌜ at + length (decimal n) ≤ length (now out) ⌝ }
+    ensures { λ r. ⌜ Wrote (now (out .entry)) at (decimal n) r (now (out .exit)) ⌝ }
+{
+    if n < 10 {
+        out[at] = (48 + n) as u8;
+        return at + 1;
+    }
+    put_digits(out, at, n)
+}
+
+// The same, digit by digit.
+fn put_digits(out: &mut [u8], at: usize, n: u64) -> usize
     requires { ⌜ at + length (decimal n) ≤ length (now out) ⌝ }
     ensures { λ r. ⌜ Wrote (now (out .entry)) at (decimal n) r (now (out .exit)) ⌝ }
 {
