@@ -47,12 +47,16 @@ pub fn read_run_cards(s: &[u8]) -> RunInput
     let card = n.net;
     let net_read = n.read;
     match net_read {
-        LineRead::Stopped(why) => refused_run_cards(why),
+        LineRead::Stopped(why) => {
+            return refused_run_cards(why);
+        }
         LineRead::Next(behind) => {
             let r = run::run_card(&s[behind..], card.transitions);
             let run_read = r.read;
             match run_read {
-                LineRead::Stopped(why) => refused_run_cards(why),
+                LineRead::Stopped(why) => {
+                    return refused_run_cards(why);
+                }
                 LineRead::Next(end) => {
                     let timed = r.run;
                     RunInput {
@@ -100,12 +104,16 @@ pub fn read_order_cards(s: &[u8]) -> OrderInput
     let card = n.net;
     let net_read = n.read;
     match net_read {
-        LineRead::Stopped(why) => refused_order_cards(why),
+        LineRead::Stopped(why) => {
+            return refused_order_cards(why);
+        }
         LineRead::Next(behind) => {
             let o = run::order_card(&s[behind..], card.transitions);
             let order_read = o.read;
             match order_read {
-                LineRead::Stopped(why) => refused_order_cards(why),
+                LineRead::Stopped(why) => {
+                    return refused_order_cards(why);
+                }
                 LineRead::Next(end) => {
                     let untimed = o.order;
                     OrderInput {

@@ -18,7 +18,7 @@ ghost use Rattle.text.specs.Decimal.{field};
 ghost use Rattle.form.specs.Form.{keyed, refused};
 ghost use Rattle.form.specs.Code.{numbers};
 ghost use Rattle.net.specs.Keys.{latestKey, startKey};
-ghost use Rattle.net.specs.Net.{latest, latestChecked, latestText, weights, transition, noTransition, starts, table, body, netCard};
+ghost use Rattle.net.specs.Net.{latest, latestChecked, latestText, weights, transition, starts, table, body, netCard};
 ghost use Rattle.net.specs.Code.{latestLine, transitionRead, weighted, tableRead, netRead, counted, remainderStart, netText};
 
 // A transition's upper bound, in ticks.
@@ -65,16 +65,14 @@ pub struct NetRead {
 }
 
 // What stands for a transition that was not read.
-fn no_transition() -> Transition
-    ensures { λ t. ⌜ t ≡ noTransition ⌝ }
-{
-    Transition {
-        earliest: 0,
-        latest: Latest::Unbounded,
-        take: [0u32; 16],
-        give: [0u32; 16],
-    }
-}
+const NO_TRANSITION: Transition = Transition {
+    earliest: 0,
+    latest: Latest::Unbounded,
+    take: [0u32; 16],
+    give: [0u32; 16],
+};
+
+const NO_TABLE: [Transition; 32] = [NO_TRANSITION; 32];
 
 // The upper bound against its range and the lower bound.
 fn check_latest(latest: Latest, earliest: u32, line: usize) -> Checked
@@ -137,7 +135,7 @@ fn refused_transition(r: Refusal) -> TransitionRead
 {
     TransitionRead {
         read: LineRead::Stopped(r),
-        transition: no_transition(),
+        transition: NO_TRANSITION,
     }
 }
 
@@ -235,10 +233,9 @@ fn start_lines(s: &[u8], at: usize, places: usize, line: usize) -> Numbers
 fn refused_table(r: Refusal) -> TableRead
     ensures { λ t. ⌜ t ≡ tableRead (refused r) ⌝ }
 {
-    let t = no_transition();
     TableRead {
         read: LineRead::Stopped(r),
-        table: [t; 32],
+        table: NO_TABLE,
     }
 }
 
@@ -247,8 +244,7 @@ fn table_lines(s: &[u8], at: usize, places: usize, transitions: usize, line: usi
     requires { ⌜ (places ≤ 16) × (transitions ≤ 32) × (line ≤ 100) ⌝ }
     ensures { λ r. ⌜ r ≡ tableRead (table places transitions .read (now (s .entry)) at line) ⌝ }
 {
-    let none = no_transition();
-    let mut table = [none; 32];
+    let mut table = NO_TABLE;
     let mut to = at;
     let mut i: usize = 0;
     while i < transitions {
@@ -276,14 +272,13 @@ fn table_lines(s: &[u8], at: usize, places: usize, transitions: usize, line: usi
 pub fn refused_net(r: Refusal) -> NetRead
     ensures { λ n. ⌜ n ≡ netRead (refused r) ⌝ }
 {
-    let t = no_transition();
     NetRead {
         read: LineRead::Stopped(r),
         net: Net {
             places: 0,
             transitions: 0,
             start: [0u32; 16],
-            table: [t; 32],
+            table: NO_TABLE,
         },
     }
 }

@@ -11,7 +11,7 @@ use mathlib.Core.Path.{_≡_, refl, sym, ap, subst, _∙_}
 use lib.ListN.{length, getD, drop, drop-of-length-le}
 use lib.Seq.{drop-cons}
 use lib.Dec.{leb, eqb, lit<}
-use borrow.Author.Tests.{eqb-true, le-leb, ne-eqb}
+use borrow.Author.Tests.{le-leb, ne-eqb}
 use types.Run.{OneOf}
 use denote.Enum.Declared.{tagOf}
 use Rattle.text.proofs.ByteClass.{the-type}

@@ -96,6 +96,7 @@ read-order-cards-spec =
     read-net-requires
     enum-known-net-read
     refused-order-cards-requires
+    returns
     enum-known-net-read-2
     sub-order-card
     part-order-card-start
@@ -103,8 +104,7 @@ read-order-cards-spec =
     order-card-requires
     enum-known-order-read
     refused-order-cards-requires-2
+    returns-2
     enum-known-order-read-2
     add-t18
-    returns
-    returns-2
     returns-3)

@@ -96,6 +96,7 @@ read-run-cards-spec =
     read-net-requires
     enum-known-net-read
     refused-run-cards-requires
+    returns
     enum-known-net-read-2
     sub-run-card
     part-run-card-start
@@ -103,8 +104,7 @@ read-run-cards-spec =
     run-card-requires
     enum-known-run-read
     refused-run-cards-requires-2
+    returns-2
     enum-known-run-read-2
     add-t18
-    returns
-    returns-2
     returns-3)

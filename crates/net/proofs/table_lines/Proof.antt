@@ -15,13 +15,10 @@ Inv-loop s at places transitions line table₀ to₀ i₀ table to i = Reading (
 abbrev μ-loop : tie.MeasureT-loop
 μ-loop s at places transitions line table₀ to₀ i₀ table to i = transitions - i
 
-no-transition-requires : tie.Need-no-transition-requires Inv-loop μ-loop
-no-transition-requires c κs = search needs
-
 loop-holds : tie.Need-loop-holds Inv-loop μ-loop
 loop-holds c =
-    let a = c .before .before .args in
-    rw (c .no-transition .ensures) (table-begins (a .places) (a .transitions) (a .s .now) (a .at) (a .line) (c .before .before .pre .1))
+    let a = c .before .args in
+    table-begins (a .places) (a .transitions) (a .s .now) (a .at) (a .line) (c .before .pre .1)
 
 mul-transition-lines : tie.Need-mul-transition-lines Inv-loop μ-loop
 mul-transition-lines c = search needs
@@ -43,7 +40,7 @@ returns c =
     let e = c .before .before in
     let n = e .before .before in
     let b = n .before .before in
-    let a = b .before .before .before .args in
+    let a = b .before .before .args in
     c .refused-table .ensures ∙
     table-stopped (a .places) (b .loop .inv) (n .before .loop-test .taken) (n .transition-lines .result) (n .transition-lines .ensures) (e .read .given .1)
 
@@ -67,7 +64,7 @@ loop-again c =
     let e = c .before .before in
     let n = e .before .before in
     let b = n .before .before in
-    let a = b .before .before .before .args in
+    let a = b .before .before .args in
     table-more (a .places) (b .loop .inv) (n .before .loop-test .taken) (n .transition-lines .result) (n .transition-lines .ensures) (e .read2 .given .1)
 
 returns-2 : tie.Need-returns-2 Inv-loop μ-loop
@@ -79,7 +76,6 @@ table-lines-spec =
     (tie.spec
     Inv-loop
     μ-loop
-    no-transition-requires
     loop-holds
     mul-transition-lines
     add-transition-lines
