@@ -49,7 +49,8 @@ fn put_comma(out: &mut [u8], at: usize, first: bool) -> usize
     if first {
         return at;
     }
-    text::put_bytes(&mut *out, at, b",")
+    out[at] = 44;
+    at + 1
 }
 
 // A number and a dot behind it.
@@ -58,7 +59,8 @@ fn put_part(out: &mut [u8], at: usize, n: u64) -> usize
     ensures { λ r. ⌜ Wrote (now (out .entry)) at (decimal n ++ (46 ∷ [])) r (now (out .exit)) ⌝ }
 {
     let to = text::put_number(&mut *out, at, n);
-    text::put_bytes(&mut *out, to, b".")
+    out[to] = 46;
+    to + 1
 }
 
 // The text of an item, with a comma before it where it is not the first of its line.

@@ -1,26 +1,34 @@
 -- Nothing is written before the first of a list, and one byte before each other.
+use Prim.Native.Nat.{_<_}
+use native.Mathlib.Omega.{arith}
+use lib.ListN.{length}
 use borrow.Author.Needs.{needs}
 use Rattle.laws.specs.Room.{wrote-none}
+use Rattle.laws.specs.Writes.{wrote-byte}
 use Rattle.causal.proofs.put_comma.Statement.{statement}
 use Rattle.causal.proofs.put_comma.Tie as tie
 
+room : (c : tie.Else1) → c .before .args .at < length (c .before .args .out .now)
+room c = let r = rw (c .if1 .left) at (c .before .pre) in omega arith
+
 returns : tie.Need-returns
 returns c =
-    let b = c .before .before in
+    let b = c .before in
     rw (c .if1 .taken) (wrote-none (b .args .out .now) (b .args .at))
 
-slice-aggregate-put-bytes : tie.Need-slice-aggregate-put-bytes
-slice-aggregate-put-bytes c = search needs
+slice-write-out : tie.Need-slice-write-out
+slice-write-out c = room c
 
-put-bytes-requires : tie.Need-put-bytes-requires
-put-bytes-requires c κs = rw (c .before .before .if1 .left) at (c .before .before .before .before .pre)
+add-result : tie.Need-add-result
+add-result c = search needs
 
 same-length : tie.Need-same-length
 same-length c = search needs
 
 returns-2 : tie.Need-returns-2
-returns-2 c = rw (c .before .before .before .before .before .if1 .left) (c .before .before .put-bytes .ensures)
+returns-2 c =
+    let b = c .before in
+    rw (c .if1 .left) (wrote-byte (b .args .out .now) (b .args .at) 44 (room c))
 
 pub put-comma-spec : {M : Type 1} → statement M
-put-comma-spec =
-    tie.close (tie.spec returns slice-aggregate-put-bytes put-bytes-requires same-length returns-2)
+put-comma-spec = tie.close (tie.spec returns slice-write-out add-result same-length returns-2)
