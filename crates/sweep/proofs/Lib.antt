@@ -1,5 +1,6 @@
 pub mod Raising
-pub mod Sweeping
+pub mod Descent
+pub mod Ascent
 pub mod Level
 pub mod Rounds
 pub mod Prefixes

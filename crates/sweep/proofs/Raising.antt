@@ -1,46 +1,36 @@
 -- What is raised to t is at most whatever is t or more there. An upper bound is met exactly when the origin is not before what the bound asks.
 use Prim.Native.Nat.{ℕ, _-_, _≤_, _<_}
-use mathlib.Core.Path.{_≡_, refl, subst⁻¹}
-use mathlib.Core.Bool.{Bool, true, false, not}
+use mathlib.Core.Path.{_≡_, subst⁻¹}
+use mathlib.Core.Bool.{Bool, true, false}
 use mathlib.Core.List.{List}
-use mathlib.Core.Logic.{_↔_, inl, inr}
-use lib.ListN.{length, set, length-set}
+use mathlib.Core.Logic.{_↔_}
+use lib.ListN.{length, set}
 use lib.Seq.{getD-set-same, getD-set-other}
-use native.Mathlib.Nat.{le-refl}
 use native.Mathlib.Decide.{ℕ-discrete}
 use native.Mathlib.Omega.{arith}
-use borrow.Author.Tests.{not-true, not-false}
 use Rattle.timing.specs.Timing.{Upper, atMost, below, unbounded, Within, Closed}
 use Rattle.timing.specs.Solve.{instantAt}
 use Rattle.timing.specs.Collect.{upperIn}
-use Rattle.sweep.specs.Sweeps.{asked, Raised}
+use Rattle.timing.proofs.Pass.{Under}
+use Rattle.sweep.specs.Sweeps.{asked}
 
 -- what holds of each index but `at`, and of `at`, holds of each
 pub each-index : (at : ℕ) (P : ℕ → Type 0) → P at → ((j : ℕ) → (j ≡ at → ⊥) → P j) → (j : ℕ) → P j
 each-index at P p q j = elim (ℕ-discrete j at) [ yes e ↦ subst⁻¹ P e p | no n ↦ q j n ]
 
-module _ (x : List ℕ) (at t was : ℕ) where
-  pub raised-none : t ≤ instantAt x at → Raised x at t was x was
-  raised-none h =
-      record { size = refl; up = λ j. le-refl _; reached = h; kept = λ j n. refl; under = λ S s u. u; rose = inl (refl, refl) }
+-- the instant `at`, raised to t
+module _ (x : List ℕ) (at t : ℕ) (l : at < length x) (h : instantAt x at < t) where
+  pub raised-there : instantAt (set x at t) at ≡ t
+  raised-there = getD-set-same x at t 0 l
 
-  module _ (l : at < length x) (h : instantAt x at < t) where
-    there : instantAt (set x at t) at ≡ t
-    there = getD-set-same x at t 0 l
+  pub raised-kept : (j : ℕ) → (j ≡ at → ⊥) → instantAt (set x at t) j ≡ instantAt x j
+  raised-kept j n = getD-set-other x at j t 0 n
 
-    elsewhere : (j : ℕ) → (j ≡ at → ⊥) → instantAt (set x at t) j ≡ instantAt x j
-    elsewhere j n = getD-set-other x at j t 0 n
+  pub raised-up : Under (instantAt x) (instantAt (set x at t))
+  raised-up = each-index at (λ j. instantAt x j ≤ instantAt (set x at t) j) (omega (arith, raised-there)) (λ j n. omega (arith, raised-kept j n))
 
-    pub raised-one : Raised x at t was (set x at t) at
-    raised-one =
-        record {
-          size = length-set x at t;
-          up = each-index at (λ j. instantAt x j ≤ instantAt (set x at t) j) (omega (arith, there)) (λ j n. omega (arith, elsewhere j n));
-          reached = omega (arith, there);
-          kept = elsewhere;
-          under = λ S s u. each-index at (λ j. instantAt (set x at t) j ≤ S j) (omega (arith, there)) (λ j n. omega (arith, elsewhere j n, u j));
-          rose = inr (refl, omega (arith, there));
-        }
+  pub raised-under : (S : ℕ → ℕ) → t ≤ S at → Under (instantAt x) S → Under (instantAt (set x at t)) S
+  raised-under S s u = each-index at (λ j. instantAt (set x at t) j ≤ S j) (omega (arith, raised-there)) (λ j n. omega (arith, raised-kept j n, u j))
 
 -- ---- what an upper bound asks
 
@@ -60,11 +50,11 @@ asked-le (below b) c t = absurd c
 asked-le unbounded c t = omega arith
 
 module _ (closed : Bool) (t high : ℕ) where
-  pub asks-none : not closed ≡ true → 0 ≡ asked (upperIn closed high) t
-  asks-none e = rw (not-true closed e)
+  pub asks-none : closed ≡ false → 0 ≡ asked (upperIn closed high) t
+  asks-none e = rw e
 
-  pub asks-past : not closed ≡ false → t - high ≡ asked (upperIn closed high) t
-  asks-past e = rw (not-false closed e)
+  pub asks-past : closed ≡ true → t - high ≡ asked (upperIn closed high) t
+  asks-past e = rw e
 
 -- no upper bound of the lists is an open one
 pub upper-closed : (closed : Bool) (high : ℕ) → Closed (upperIn closed high)

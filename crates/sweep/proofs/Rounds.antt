@@ -49,47 +49,51 @@ one-less round = omega arith
 none-left : (round : ℕ) → 64 < suc round → 64 - round ≤ 0
 none-left round h = omega arith
 
--- the first k windows, with the instants x₀ at which the firing k entered: x is what they became in some rounds, and of the windows from top on the upper
--- bounds are met
-pub record Settling (W : ℕ → Win) (k : ℕ) (x₀ x : List ℕ) (top round : ℕ) : Type 0 where
+-- the first k windows, with the instants x₀ at which the firing k entered: x is what they became in some rounds, and of the windows below bottom and from
+-- top on the upper bounds are met
+pub record Settling (W : ℕ → Win) (k : ℕ) (x₀ x : List ℕ) (bottom top round : ℕ) : Type 0 where
   pub few : k ≤ 64
   pub earlier : Wellformed W k
   pub closed : AllClosed W k
   pub entered : Entered W k x₀
+  pub below : bottom ≤ top
   pub some : 0 < top
   pub within : top ≤ k
   pub size : length x ≡ 65
   pub starts : instantAt x 0 ≡ 0
   pub level : instantAt x k ≡ instantAt x₀ k
   pub follows : (j : ℕ) → j < k → Follows (originOf W) (lowOf W) (instantAt x) j
+  pub met : (j : ℕ) → j < bottom → Reaches (originOf W) (highOf W) (instantAt x) j
   pub reaches : (j : ℕ) → top ≤ j → j < k → Reaches (originOf W) (highOf W) (instantAt x) j
   pub under : (S : ℕ → ℕ) → ((j : ℕ) → j < k → Meets 1 S j (W j)) → Under (instantAt x) S
   pub near : (S : ℕ → ℕ) → Feasible 1 W k S → (round ≤ 64) × Near 64 (edges 1 W k []) (64 - round) x
 
 module _ {W : ℕ → Win} {k : ℕ} where
-  pub settle-start : {x : List ℕ} → k ≤ 64 → Wellformed W k → AllClosed W k → Entered W k x → Settling W k x x k 0
+  pub settle-start : {x : List ℕ} → k ≤ 64 → Wellformed W k → AllClosed W k → Entered W k x → Settling W k x x (k - 1) k 0
   settle-start {x} few wf c e =
       record {
         few = few;
         earlier = wf;
         closed = c;
         entered = e;
+        below = omega arith;
         some = e .some;
         within = le-refl k;
         size = e .size;
         starts = e .starts;
         level = omega arith;
         follows = e .follows;
+        met = λ j l. e .reaches j (omega (arith, e .some));
         reaches = λ j h l. absurd (omega arith);
         under = e .under;
         near = λ S f. (omega arith, near-start 64 (edges 1 W k []) x);
       }
 
   -- more rounds than instants
-  pub settle-spent : {x₀ x : List ℕ} {top round : ℕ} → Settling W k x₀ x top round → 65 ≤ round → Unmet W k
+  pub settle-spent : {x₀ x : List ℕ} {bottom top round : ℕ} → Settling W k x₀ x bottom top round → 65 ≤ round → Unmet W k
   settle-spent s h S f = omega (arith, s .near S f)
 
-  module _ {x₀ x : List ℕ} {top round : ℕ} (s : Settling W k x₀ x top round)
+  module _ {x₀ x : List ℕ} {bottom top round : ℕ} (s : Settling W k x₀ x bottom top round)
       {from : ℕ} {z : List ℕ} (b : Backward (originOf W) (highOf W) top x from 0 z) where
     pub back-size : length z ≡ 65
     back-size = b .size ∙ s .size
@@ -229,20 +233,33 @@ module _ {W : ℕ → Win} {k : ℕ} where
             (λ h. absurd (exhausted 64 es fits x begun (near-le 64 es (64 - round) 0 x (none-left round h) (n .1)) unsettled S (p .starts) (sat-of 1 W S k (p .each))))
             (le-or-lt (suc round) 64)
 
-        pub settle-more : (from ≡ 0 → ⊥) → (to ≡ 0 → ⊥) → (to ≡ k → ⊥) → Settling W k x₀ y to (suc round)
-        settle-more n m l =
-            record {
-              few = s .few;
-              earlier = s .earlier;
-              closed = s .closed;
-              entered = s .entered;
-              some = omega arith;
-              within = f .high;
-              size = round-size;
-              starts = f .kept 0 (inr (omega arith)) ∙ b .kept 0 (inl (omega arith)) ∙ s .starts;
-              level = f .kept k (inl (omega (arith, f .high))) ∙ back-level;
-              follows = f .follows;
-              reaches = round-reaches;
-              under = round-under;
-              near = round-near;
-            }
+        module _ {first : ℕ} (inside : first ≤ k) (same : (j : ℕ) → j < first → instantAt y (suc j) ≡ instantAt z (suc j)) where
+          -- the firing `to` rose, so its window is not below the first
+          first-below : (to ≡ 0 → ⊥) → first ≤ to
+          first-below n =
+              ⊎-elim
+              (λ h. h)
+              (λ h.
+              let q : to ≡ suc (to - 1) = omega arith in
+              absurd (omega (arith, f .rose (omega arith), same (to - 1) (omega arith), ap (instantAt y) q, ap (instantAt z) q)))
+              (le-or-lt first to)
+
+          pub settle-more : (from ≡ 0 → ⊥) → (to ≡ 0 → ⊥) → (to ≡ k → ⊥) → Settling W k x₀ y first to (suc round)
+          settle-more n m l =
+              record {
+                few = s .few;
+                earlier = s .earlier;
+                closed = s .closed;
+                entered = s .entered;
+                below = first-below m;
+                some = omega arith;
+                within = f .high;
+                size = round-size;
+                starts = f .kept 0 (inr (omega arith)) ∙ b .kept 0 (inl (omega arith)) ∙ s .starts;
+                level = f .kept k (inl (omega (arith, f .high))) ∙ back-level;
+                follows = f .follows;
+                met = λ j h. omega (arith, ap (asked (W j .high)) (same j h), back-reaches j (omega arith), f .up (W j .origin));
+                reaches = round-reaches;
+                under = round-under;
+                near = round-near;
+              }

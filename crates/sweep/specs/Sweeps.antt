@@ -34,15 +34,6 @@ Follows origin low S j = (S j ≤ S (suc j)) × (S (origin j) + low j ≤ S (suc
 abbrev pub Reaches : (ℕ → ℕ) → (ℕ → Upper) → (ℕ → ℕ) → ℕ → Type 0
 Reaches origin upper S j = asked (upper j) (S (suc j)) ≤ S (origin j)
 
--- y is x with the instant `at` raised to t; r is `at` where it rose, and was where nothing did
-pub record Raised (x : List ℕ) (at t was : ℕ) (y : List ℕ) (r : ℕ) : Type 0 where
-  pub size : length y ≡ length x
-  pub up : Under (instantAt x) (instantAt y)
-  pub reached : t ≤ instantAt y at
-  pub kept : (j : ℕ) → (j ≡ at → ⊥) → instantAt y j ≡ instantAt x j
-  pub under : (S : ℕ → ℕ) → t ≤ S at → Under (instantAt x) S → Under (instantAt y) S
-  pub rose : ((r ≡ was) × (y ≡ x)) ⊎ ((r ≡ at) × (instantAt x at < instantAt y at))
-
 -- x is what x₀ became when the firings top, .., i + 1 raised their origins; `from` is the lowest index that rose, and top where none did
 pub record Backward (origin : ℕ → ℕ) (upper : ℕ → Upper) (top : ℕ) (x₀ : List ℕ) (from i : ℕ) (x : List ℕ) : Type 0 where
   pub within : i ≤ top

@@ -2,18 +2,24 @@
 // along upper bounds and forward along order and lower bounds. The work depends on the number of windows, not on the size of their bounds.
 ghost use mathlib.Core.Path.{_≡_};
 ghost use mathlib.Core.Bool.{cond};
-ghost use Prim.Native.Nat.{ℕ, _+_, _*_, _<_, _≤_, _^_, min, max};
+ghost use Prim.Native.Nat.{ℕ, suc, _+_, _*_, _-_, _<_, _≤_, _^_, min, max};
 ghost use lib.ListN.{length};
 ghost use Rattle.timing.specs.Solve.{instantAt};
 ghost use Rattle.timing.specs.Claims.{Judges};
 ghost use Rattle.sweep.specs.Arrays.{entry, uppers, Listed, verdictOf};
 ghost use Rattle.timing.specs.Collect.{upperIn, windowIn};
-ghost use Rattle.sweep.specs.Sweeps.{asked, Follows, Raised, Backward, Forward, Solved, Entered, Unmet};
+ghost use Rattle.sweep.specs.Sweeps.{asked, Follows, Reaches, Backward, Forward, Solved, Entered, Unmet};
 
 // The earliest instants: of the first `failed` windows, the last cannot be met with the others; 0 where all are met, and then by these instants.
 pub struct Earliest {
     pub failed: usize,
     pub instants: [u64; 65],
+}
+
+// What a sweep forward raised: the window of the first firing that rose, and the last firing that rose; k and 0 where none of the k firings did.
+struct Risen {
+    first: usize,
+    to: usize,
 }
 
 // The later of two instants.
@@ -49,65 +55,84 @@ fn least_origin(closed: bool, t: u64, high: u64) -> u64
     t - high
 }
 
-// Raises x[at] to t. The index that rose: this one, or the one given where nothing did.
-fn raise(x: &mut [u64; 65], at: usize, t: u64, was: usize) -> usize
-    requires { ⌜ (length (now x) ≡ 65) × (at < 65) ⌝ }
-    ensures { λ r. ⌜ Raised (now (x .entry)) at t was (now (x .exit)) r ⌝ }
+// The window of a firing; the start has none.
+fn window_of(firing: usize) -> usize
+    ensures { λ r. ⌜ r ≡ firing - 1 ⌝ }
 {
-    if t <= x[at] {
-        return was;
+    if firing == 0 {
+        return 0;
     }
-    x[at] = t;
-    at
+    firing - 1
 }
 
-// Raises origins along the upper bounds of the firings top, .., 1. The lowest index that rose, or top where none did.
+// Raises origins along the upper bounds of the windows top - 1, .., 0, of which those below `bottom` are met and need no look unless their firing rises.
+// The lowest index that rose, or top where none did.
 fn backward<'a>(
     x: &mut [u64; 65],
     origin: &'a [usize],
     closed: &'a [bool],
     high: &'a [u64],
+    bottom: usize,
     top: usize,
 ) -> usize
     requires { ⌜ (length (now x) ≡ 65) × (top ≤ 64) × (top ≤ length (now origin)) × (top ≤ length (now closed)) × (top ≤ length (now high)) ⌝ }
     requires { ⌜ ((j : ℕ) → j < top → entry (now origin) j ≤ j) ⌝ }
+    requires { ⌜ (bottom ≤ top) × ((j : ℕ) → j < bottom → Reaches (entry (now origin)) (uppers (now closed) (now high)) (instantAt (now x)) j) ⌝ }
     ensures { λ r. ⌜ Backward (entry (now (origin .entry))) (uppers (now (closed .entry)) (now (high .entry))) top (now (x .entry)) r 0 (now (x .exit)) ⌝ }
 {
     let mut from = top;
+    let mut stop = bottom;
     let mut i = top;
-    while 0 < i {
+    while stop < i {
         i -= 1;
-        let o = origin[i];
-        let t = least_origin(closed[i], x[i + 1], high[i]);
-        let r = raise(x, o, t, from);
-        from = lower(from, r);
+        if closed[i] {
+            let t = x[i + 1];
+            let h = high[i];
+            if h < t {
+                let o = origin[i];
+                if x[o] < t - h {
+                    x[o] = t - h;
+                    from = lower(from, o);
+                    stop = lower(stop, window_of(o));
+                }
+            }
+        }
     }
     from
 }
 
-// Raises the firings from + 1, .., k along order and lower bounds. The highest index that rose, or 0 where none did.
+// Raises the firings from + 1, .., k along order and lower bounds.
 fn forward<'a>(
     x: &mut [u64; 65],
     origin: &'a [usize],
     low: &'a [u64],
     from: usize,
     k: usize,
-) -> usize
+) -> Risen
     requires { ⌜ (length (now x) ≡ 65) × (k ≤ 64) × (k ≤ length (now origin)) × (k ≤ length (now low)) × (from ≤ k) ⌝ }
     requires { ⌜ ((j : ℕ) → j < k → entry (now origin) j ≤ j) × ((j : ℕ) → j < k → entry (now low) j < 2 ^ 32) ⌝ }
     requires { ⌜ ((j : ℕ) → j < from → Follows (entry (now origin)) (entry (now low)) (instantAt (now x)) j) ⌝ }
     requires { ⌜ ((j : ℕ) → j ≤ k → instantAt (now x) j ≤ 64 * 2 ^ 32) ⌝ }
-    ensures { λ r. ⌜ Forward (entry (now (origin .entry))) (entry (now (low .entry))) from k (now (x .entry)) r k (now (x .exit)) ⌝ }
+    ensures { λ r. ⌜ Forward (entry (now (origin .entry))) (entry (now (low .entry))) from k (now (x .entry)) (r .to) k (now (x .exit))
+        × (r .first ≤ k) × ((j : ℕ) → j < r .first → instantAt (now (x .exit)) (suc j) ≡ instantAt (now (x .entry)) (suc j)) ⌝ }
 {
+    let mut first = k;
     let mut to: usize = 0;
+    let mut before = x[from];
     let mut i = from;
     while i < k {
         let o = origin[i];
-        let t = later(x[i], x[o] + low[i]);
-        to = raise(x, i + 1, t, to);
+        let t = later(before, x[o] + low[i]);
+        before = x[i + 1];
+        if before < t {
+            x[i + 1] = t;
+            before = t;
+            to = i + 1;
+            first = lower(first, i);
+        }
         i += 1;
     }
-    to
+    Risen { first, to }
 }
 
 // Raises instants until the first k windows are met; false where they cannot be. In each round one more instant becomes final.
@@ -125,16 +150,18 @@ fn settle<'a>(
         (Unmet (windowIn (now (origin .entry)) (now (low .entry)) (now (closed .entry)) (now (high .entry))) k) ⌝ }
 {
     let mut top = k;
+    let mut bottom = k - 1;
     let mut round: usize = 0;
     while round < 65 {
-        let from = backward(x, origin, closed, high, top);
+        let from = backward(x, origin, closed, high, bottom, top);
         if from == top {
             return true;
         }
         if from == 0 {
             return false;
         }
-        let to = forward(x, origin, low, from, k);
+        let risen = forward(x, origin, low, from, k);
+        let to = risen.to;
         if to == 0 {
             return true;
         }
@@ -142,6 +169,7 @@ fn settle<'a>(
             return false;
         }
         top = to;
+        bottom = risen.first;
         round += 1;
     }
     false

@@ -1,21 +1,28 @@
--- The invariant is `Forward`, what the firings that had their turn leave. A sum fits, since a turn adds less than 2 ^ 32 to the largest instant.
+-- The invariant is `Ascending`: what the firings that had their turn leave, with the instant at i and the window of the first that rose. A sum fits, since
+-- a turn adds less than 2 ^ 32 to the largest instant.
 use Prim.Native.Nat.{_-_}
+use mathlib.Core.Logic.{⊎-elim}
 use native.Mathlib.Omega.{arith}
 use borrow.Author.Needs.{needs}
 use Rattle.sweep.specs.Arrays.{entry}
-use Rattle.sweep.specs.Sweeps.{Forward}
-use Rattle.sweep.proofs.Sweeping.{forth-start, forth-turn, forth-stop}
+use Rattle.sweep.proofs.Ascent.{Ascending, forth-start, forth-stop, forth-passed, forth-raised}
 use Rattle.sweep.proofs.forward.Statement.{statement}
 use Rattle.sweep.proofs.forward.Tie as tie
 
 abbrev Inv-loop : tie.InvT-loop
-Inv-loop x₀ origin low from k to₀ i₀ x to i = Forward (entry origin) (entry low) from k x₀ to i x
+Inv-loop x₀ origin low from k first₀ to₀ before₀ i₀ x first to before i = Ascending (entry origin) (entry low) from k x₀ first to before i x
 
 abbrev μ-loop : tie.MeasureT-loop
-μ-loop x₀ origin low from k to₀ i₀ x to i = k - i
+μ-loop x₀ origin low from k first₀ to₀ before₀ i₀ x first to before i = k - i
+
+mul-before : tie.Need-mul-before Inv-loop μ-loop
+mul-before c = search needs
+
+element-copy-out-before : tie.Need-element-copy-out-before Inv-loop μ-loop
+element-copy-out-before c = search needs
 
 loop-holds : tie.Need-loop-holds Inv-loop μ-loop
-loop-holds c = let a = c .before .before .args in let p = c .before .before .pre in forth-start (entry (a .origin .now)) (entry (a .low .now)) (a .from) (a .k) (a .x .now) (omega arith) (p .1 .1 .0) (p .1 .1 .1)
+loop-holds c = let start = c .before .before .before in let a = start .args in forth-start (entry (a .origin .now)) (entry (a .low .now)) (a .from) (a .k) (a .x .now) (start .pre .0 .4) (start .pre .1 .1 .0) (start .pre .1 .1 .1)
 
 mul-o : tie.Need-mul-o Inv-loop μ-loop
 mul-o c = search needs
@@ -24,38 +31,51 @@ shared-slice-read-o : tie.Need-shared-slice-read-o Inv-loop μ-loop
 shared-slice-read-o c = search needs
 
 mul-later : tie.Need-mul-later Inv-loop μ-loop
-mul-later c = search needs
+mul-later c = let turn = c .before in let start = turn .before .before .before .before .before in omega (arith, start .pre .1 .0 .0 (turn .before .loop .i) (turn .loop-test .taken))
 
 element-copy-out-later : tie.Need-element-copy-out-later Inv-loop μ-loop
-element-copy-out-later c = search needs
+element-copy-out-later c = let turn = c .before in let start = turn .before .before .before .before .before in omega (arith, start .pre .1 .0 .0 (turn .before .loop .i) (turn .loop-test .taken))
 
 mul-later-2 : tie.Need-mul-later-2 Inv-loop μ-loop
-mul-later-2 c = let start = c .before .before .before .before .before .before in let l = c .before .before .before .loop in omega (arith, start .pre .1 .0 .0 (l .i) (omega arith))
-
-element-copy-out-later-2 : tie.Need-element-copy-out-later-2 Inv-loop μ-loop
-element-copy-out-later-2 c = let start = c .before .before .before .before .before .before in let l = c .before .before .before .loop in omega (arith, start .pre .1 .0 .0 (l .i) (omega arith))
-
-mul-later-3 : tie.Need-mul-later-3 Inv-loop μ-loop
-mul-later-3 c = search needs
+mul-later-2 c = search needs
 
 shared-slice-read-later : tie.Need-shared-slice-read-later Inv-loop μ-loop
 shared-slice-read-later c = search needs
 
 add-later : tie.Need-add-later Inv-loop μ-loop
 add-later c =
-    let start = c .before .before .before .before .before .before .before .before in
-    let l = c .before .before .before .before .before .loop in
-    let o = start .pre .1 .0 .0 (l .i) (omega arith) in
-    omega (arith, l .inv .small (entry (start .args .origin .now) (l .i)) (omega arith), start .pre .1 .0 .1 (l .i) (omega arith))
+    let turn = c .before .before .before in
+    let start = turn .before .before .before .before .before in
+    let l = turn .before .loop in
+    let o = start .pre .1 .0 .0 (l .i) (turn .loop-test .taken) in
+    omega (arith, l .inv .swept .small (entry (start .args .origin .now) (l .i)) (omega arith), start .pre .1 .0 .1 (l .i) (omega arith))
 
 later-requires : tie.Need-later-requires Inv-loop μ-loop
 later-requires c κs = search needs
 
-add-raise : tie.Need-add-raise Inv-loop μ-loop
-add-raise c = search needs
+add-before : tie.Need-add-before Inv-loop μ-loop
+add-before c = search needs
 
-raise-requires : tie.Need-raise-requires Inv-loop μ-loop
-raise-requires c κs = search needs
+mul-before-2 : tie.Need-mul-before-2 Inv-loop μ-loop
+mul-before-2 c = search needs
+
+element-copy-out-before-2 : tie.Need-element-copy-out-before-2 Inv-loop μ-loop
+element-copy-out-before-2 c = search needs
+
+add-x : tie.Need-add-x Inv-loop μ-loop
+add-x c = search needs
+
+mul-x : tie.Need-mul-x Inv-loop μ-loop
+mul-x c = search needs
+
+element-write-x : tie.Need-element-write-x Inv-loop μ-loop
+element-write-x c = search needs
+
+add-to : tie.Need-add-to Inv-loop μ-loop
+add-to c = search needs
+
+lower-requires : tie.Need-lower-requires Inv-loop μ-loop
+lower-requires c κs = search needs
 
 add-i : tie.Need-add-i Inv-loop μ-loop
 add-i c = search needs
@@ -65,18 +85,20 @@ loop-less c = search needs
 
 loop-again : tie.Need-loop-again Inv-loop μ-loop
 loop-again c =
-    let start = c .before .before .before .before .before .before .before .before .before .before .before in
-    let a = start .args in
-    let l = c .before .before .before .before .before .before .before .before .loop in
+    let turn = c .before .before .before .before .before .before in
+    let start = turn .before .before .before .before .before in
+    let l = turn .before .loop in
     let t = c .before .before .later in
-    forth-turn (entry (a .origin .now)) (entry (a .low .now)) (a .from) (a .k) (a .x .now) (start .pre .1 .0 .0) (start .pre .1 .0 .1) (l .to) (l .i) (l .x)
-    (c .raise .last .0) (t .result) (c .raise .result) (c .before .before .before .before .before .before .before .loop-test .taken) (l .inv) (t .ensures) (c .raise .ensures)
+    ⊎-elim
+    (λ w.
+    rw (w .2, w .3, w .4, w .5)
+    (forth-raised (l .inv) (turn .loop-test .taken) (t .result) (t .ensures) (start .pre .1 .0 .0) (start .pre .1 .0 .1 (l .i) (turn .loop-test .taken))
+    (omega (arith, start .pre .0, l .inv .swept .size)) (w .0 .taken) (w .1 .result) (w .1 .ensures)))
+    (λ w. rw (w .1, w .2, w .3, w .4) (forth-passed (l .inv) (turn .loop-test .taken) (t .result) (t .ensures) (w .0 .left)))
+    (c .if1 .came)
 
 returns : tie.Need-returns Inv-loop μ-loop
-returns c =
-    let a = c .before .before .before .before .args in
-    let l = c .before .loop in
-    forth-stop (entry (a .origin .now)) (entry (a .low .now)) (a .from) (a .k) (a .x .now) (l .to) (l .i) (l .x) (c .loop-test .left) (l .inv)
+returns c = forth-stop (c .before .loop .inv) (c .loop-test .left)
 
 pub forward-spec : {M : Type 1} → statement M
 forward-spec =
@@ -84,19 +106,25 @@ forward-spec =
     (tie.spec
     Inv-loop
     μ-loop
+    mul-before
+    element-copy-out-before
     loop-holds
     mul-o
     shared-slice-read-o
     mul-later
     element-copy-out-later
     mul-later-2
-    element-copy-out-later-2
-    mul-later-3
     shared-slice-read-later
     add-later
     later-requires
-    add-raise
-    raise-requires
+    add-before
+    mul-before-2
+    element-copy-out-before-2
+    add-x
+    mul-x
+    element-write-x
+    add-to
+    lower-requires
     add-i
     loop-less
     loop-again

@@ -12,10 +12,13 @@ use Rattle.sweep.proofs.settle.Statement.{statement}
 use Rattle.sweep.proofs.settle.Tie as tie
 
 abbrev Inv-loop : tie.InvT-loop
-Inv-loop x₀ origin low closed high k top₀ round₀ x top round = Settling (windowIn origin low closed high) k x₀ x top round
+Inv-loop x₀ origin low closed high k top₀ bottom₀ round₀ x top bottom round = Settling (windowIn origin low closed high) k x₀ x bottom top round
 
 abbrev μ-loop : tie.MeasureT-loop
-μ-loop x₀ origin low closed high k top₀ round₀ x top round = 65 - round
+μ-loop x₀ origin low closed high k top₀ bottom₀ round₀ x top bottom round = 65 - round
+
+sub-bottom : tie.Need-sub-bottom Inv-loop μ-loop
+sub-bottom c = search needs
 
 loop-holds : tie.Need-loop-holds Inv-loop μ-loop
 loop-holds c =
@@ -29,7 +32,7 @@ backward-requires c κs =
     let p = c .before .before .before .before .before .before .before .pre .0 in
     let s = c .before .before .loop .inv in
     let l = s .within in
-    ((s .size, omega (arith, p .few), omega (arith, p .origins), omega (arith, p .marks), omega (arith, p .highs)), λ j h. p .earlier j (omega arith))
+    ((s .size, omega (arith, p .few), omega (arith, p .origins), omega (arith, p .marks), omega (arith, p .highs)), ((λ j h. p .earlier j (omega arith)), (s .below, s .met)))
 
 returns : tie.Need-returns Inv-loop μ-loop
 returns c = settle-none (c .before .before .before .before .loop .inv) (c .before .backward .ensures) (c .if1 .taken)
@@ -45,10 +48,10 @@ forward-requires c κs =
     ((back-size s b, p .few, p .origins, p .lows, forth-from s b), ((p .earlier, p .small), (forth-follows s b, forth-small s b)))
 
 returns-3 : tie.Need-returns-3 Inv-loop μ-loop
-returns-3 c = settle-done (c .before .before .before .before .before .before .before .before .loop .inv) (c .before .before .before .before .before .backward .ensures) (c .before .forward .ensures) (c .before .before .before .if2 .left) (c .if3 .taken)
+returns-3 c = settle-done (c .before .before .before .before .before .before .before .before .loop .inv) (c .before .before .before .before .before .backward .ensures) (c .before .forward .ensures .0) (c .before .before .before .if2 .left) (c .if3 .taken)
 
 returns-4 : tie.Need-returns-4 Inv-loop μ-loop
-returns-4 c = settle-above (c .before .before .before .before .before .before .before .before .before .loop .inv) (c .before .before .before .before .before .before .backward .ensures) (c .before .before .forward .ensures) (c .if4 .taken)
+returns-4 c = settle-above (c .before .before .before .before .before .before .before .before .before .loop .inv) (c .before .before .before .before .before .before .backward .ensures) (c .before .before .forward .ensures .0) (c .if4 .taken)
 
 add-round : tie.Need-add-round Inv-loop μ-loop
 add-round c = search needs
@@ -58,10 +61,11 @@ loop-less c = omega arith
 
 loop-again : tie.Need-loop-again Inv-loop μ-loop
 loop-again c =
-    let round = c .before .before .before .before .before .before .before .before .before .loop .round in
-    rw (add-one round)
-    (settle-more (c .before .before .before .before .before .before .before .before .before .loop .inv) (c .before .before .before .before .before .before .backward .ensures) (c .before .before .forward .ensures) (c .before .before .before .before .before .if1 .left) (c .before .before .before .before .if2 .left) (c .before .if3 .left)
-    (c .if4 .left))
+    let l = c .before .before .before .before .before .before .before .before .before .loop in
+    let forth = c .before .before .forward .ensures in
+    rw (add-one (l .round))
+    (settle-more (l .inv) (c .before .before .before .before .before .before .backward .ensures) (forth .0) (c .before .before .before .before .before .if1 .left) (forth .1) (forth .2)
+    (c .before .before .before .before .if2 .left) (c .before .if3 .left) (c .if4 .left))
 
 returns-5 : tie.Need-returns-5 Inv-loop μ-loop
 returns-5 c = settle-spent (c .before .loop .inv) (c .loop-test .left)
@@ -72,6 +76,7 @@ settle-spec =
     (tie.spec
     Inv-loop
     μ-loop
+    sub-bottom
     loop-holds
     backward-requires
     returns
