@@ -1,7 +1,7 @@
 -- A number that was written is read again, and what is read was written so: the digits of a value are those of the text,
 -- and the form that a reader asks for, no leading zero, is that of the one width that the writer takes.
 use Prim.Native.Nat.{ℕ, zero, suc, _+_, _-_, _*_, _/_, _%_, _^_, _≤_, _<_}
-use native.Mathlib.Nat.{pow-suc, pow-le-pow-right, one-le-pow, mul-le-mul-right, div-lt-iff-lt-mul, div-add-mod', mod-lt}
+use native.Mathlib.Nat.{pow-suc, pow-le-pow-right, mul-le-mul-right, div-lt-iff-lt-mul, div-add-mod', mod-lt}
 use native.Mathlib.Omega.{arith}
 use mathlib.Core.List.{List, [], _∷_, _++_, map, append-assoc}
 use mathlib.Core.Bool.{Bool, true, false, not, cond, _&&_, _||_, or-true, false≢true, and-eq-true-iff}
@@ -19,16 +19,13 @@ use Rattle.text.specs.Key.{beginsWith}
 use Rattle.text.proofs.KeyLaws.{begins-text, begins-split, begins-take}
 use Rattle.text.specs.Number.{isDigit, digitsOf, valueOf, wellFormed, numberOf, numberAt, separator, closed, fieldAt}
 use Rattle.text.specs.Decimal.{digits, width, decimal, field}
-use Rattle.text.proofs.DecimalLaws.{Width, width-least, width-unique, width-right, decimal-width, length-decimal, length-decimal-small}
+use Rattle.text.proofs.DecimalLaws.{Width, width-least, width-unique, width-right, decimal-width, length-decimal, length-decimal-small, power-positive}
 
 -- ---- digits and their value
 -- each is the value of a digit
 abbrev pub AllDigits : List ℕ → Type 0
 AllDigits [] = Unit {0}
 AllDigits (d ∷ ds) = (d ≤ 9) × AllDigits ds
-
-power-pos : (k : ℕ) → 0 < 10 ^ k
-power-pos k = one-le-pow k 10 (lit< tt)
 
 pub value-after : (v : ℕ) (ds : List ℕ) → valueOf v ds ≡ v * 10 ^ length ds + valueOf 0 ds
 unfolding valueOf
@@ -96,8 +93,8 @@ module _ (c : ℕ) (rest : List ℕ) (stop : isDigit c ≡ false) where
       let q = n / 10 ^ k in
       let r = n % 10 ^ k in
       let tail = digitsOf (digits k r ++ c ∷ rest) in
-      let small : q < 10 = div-lt-iff-lt-mul (power-pos k) .1 (omega (arith, pow-suc 10 k)) in
-      let ih = digits-written k r (mod-lt n (power-pos k)) in
+      let small : q < 10 = div-lt-iff-lt-mul (power-positive k) .1 (omega (arith, pow-suc 10 k)) in
+      let ih = digits-written k r (mod-lt n (power-positive k)) in
       let same : 48 + q - 48 ≡ q = omega arith in
       rw (digit-test (48 + q) (omega arith) (omega arith), same) (ap suc (ih .0), value-first q tail ∙ rw (ih .0, ih .1) (div-add-mod' n (10 ^ k)))
 

@@ -1,12 +1,12 @@
 // The bytes of a card: keys, words and decimal numbers, compared or read at a position and written to a position.
 ghost use mathlib.Core.Path.{_≡_};
-ghost use Prim.Native.Nat.{_+_, _≤_, _<_, _^_};
+ghost use Prim.Native.Nat.{_+_, _≤_};
 ghost use mathlib.Core.List.{[], _∷_};
 ghost use lib.ListN.{length, drop};
 ghost use Rattle.laws.specs.Splice.{Wrote};
 ghost use Rattle.text.specs.Key.{beginsWith};
 ghost use Rattle.text.specs.Number.{classOf, numberAt, fieldAt, separator};
-ghost use Rattle.text.specs.Decimal.{decimal, width, field};
+ghost use Rattle.text.specs.Decimal.{decimal, field};
 
 // What a byte is to a reader of cards.
 pub enum ByteClass {
@@ -150,44 +150,6 @@ pub fn put_bytes(out: &mut [u8], at: usize, text: &[u8]) -> usize
     at + n
 }
 
-// 10 to the power of each index.
-const POWERS: [u64; 20] = [
-    1,
-    10,
-    100,
-    1000,
-    10000,
-    100000,
-    1000000,
-    10000000,
-    100000000,
-    1000000000,
-    10000000000,
-    100000000000,
-    1000000000000,
-    10000000000000,
-    100000000000000,
-    1000000000000000,
-    10000000000000000,
-    100000000000000000,
-    1000000000000000000,
-    10000000000000000000,
-];
-
-// How many digits a number has.
-fn width_of(n: u64) -> usize
-    ensures { λ r. ⌜ (r ≡ width 19 n) × (r ≤ 20) × (n < 10 ^ r) ⌝ }
-{
-    let mut w: usize = 1;
-    while w < 20 {
-        if n < POWERS[w] {
-            return w;
-        }
-        w += 1;
-    }
-    w
-}
-
 // A number written at a position, its highest digit first; the position behind it.
 pub fn put_number(out: &mut [u8], at: usize, n: u64) -> usize
     requires { ⌜ at + length (decimal n) ≤ length (now out) ⌝ }
@@ -197,25 +159,30 @@ pub fn put_number(out: &mut [u8], at: usize, n: u64) -> usize
         out[at] = (48 + n) as u8;
         return at + 1;
     }
+    if n < 100 {
+        out[at] = (48 + n / 10) as u8;
+        out[at + 1] = (48 + n % 10) as u8;
+        return at + 2;
+    }
     put_digits(out, at, n)
 }
 
-// The same, digit by digit.
+// The same, of any number: its digits from the lowest up, then copied.
 fn put_digits(out: &mut [u8], at: usize, n: u64) -> usize
     requires { ⌜ at + length (decimal n) ≤ length (now out) ⌝ }
     ensures { λ r. ⌜ Wrote (now (out .entry)) at (decimal n) r (now (out .exit)) ⌝ }
 {
-    let mut left = width_of(n);
+    let mut digits = [0u8; 20];
     let mut v = n;
-    let mut to = at;
-    while 0 < left {
-        left -= 1;
-        let power = POWERS[left];
-        out[to] = (48 + v / power) as u8;
-        v = v % power;
-        to += 1;
+    let mut i: usize = 20;
+    while 10 <= v {
+        i -= 1;
+        digits[i] = (48 + v % 10) as u8;
+        v = v / 10;
     }
-    to
+    i -= 1;
+    digits[i] = (48 + v) as u8;
+    put_bytes(out, at, &digits[i..])
 }
 
 // A number and its separator written at a position; the position behind both.

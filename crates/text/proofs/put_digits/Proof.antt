@@ -1,82 +1,84 @@
--- The loop keeps the writer's state (`Writing`): the digits written stand at the position, and those left are the digits of v.
+-- The loop keeps the row (`Row`): the digits in it are the last of n, and those of v are left. Behind the loop v is the first digit.
+use Prim.Native.Nat.{_-_, _+_, _≤_}
 use native.Mathlib.Omega.{arith}
-use mathlib.Core.Path.{_≡_}
+use mathlib.Core.Path.{_≡_, refl}
+use lib.ListN.{take, drop, set, length-set}
 use borrow.Author.Needs.{needs}
-use Rattle.text.proofs.WriteNumber.{Writing, Turn, writing-start, writing-length, writing-turn, writing-done}
+use Rattle.text.specs.Decimal.{decimal}
+use Rattle.text.proofs.WriteNumber.{Row, row-start, row-room, row-more, row-all}
 use Rattle.text.proofs.put_digits.Statement.{statement}
 use Rattle.text.proofs.put_digits.Tie as tie
 
 abbrev Inv-loop : tie.InvT-loop
-Inv-loop out₀ at n left₀ v₀ to₀ out left v to = Writing out₀ at n out left v to
+Inv-loop out at n digits₀ v₀ i₀ digits v i = Row n digits v i
 
 abbrev μ-loop : tie.MeasureT-loop
-μ-loop out₀ at n left₀ v₀ to₀ out left v to = left
+μ-loop out at n digits₀ v₀ i₀ digits v i = i
 
-turn : (c : tie.In-loop Inv-loop μ-loop) →
-    Turn (c .before .before .before .before .args .out .now) (c .before .before .before .before .args .at) (c .before .before .before .before .args .n)
-    (c .before .loop .out) (c .before .loop .left) (c .before .loop .v) (c .before .loop .to)
-turn c =
-    let b = c .before .before .before .before in
-    let a = b .args in
+-- there is room for the next digit
+room : (c : tie.At-loop Inv-loop μ-loop) → 1 ≤ c .loop .i
+room c = row-room (c .before .before .args .n) (c .loop .digits) (c .loop .v) (c .loop .i) (c .loop .inv)
+
+-- what is copied is the number
+copied : (c : tie.After-loop Inv-loop μ-loop) →
+    take (20 - (c .before .loop .i - 1)) (drop (c .before .loop .i - 1) (set (c .before .loop .digits) (c .before .loop .i - 1) (48 + c .before .loop .v)))
+    ≡ decimal (c .before .before .before .args .n)
+copied c =
     let l = c .before .loop in
-    writing-turn (a .out .now) (a .at) (a .n) (b .pre) (l .out) (l .left) (l .v) (l .to) (l .inv) (c .loop-test .taken)
-
-width-of-requires : tie.Need-width-of-requires Inv-loop μ-loop
-width-of-requires c κs = search needs
+    row-all (c .before .before .before .args .n) (l .digits) (l .v) (l .i) (l .inv) (c .loop-test .left)
 
 loop-holds : tie.Need-loop-holds Inv-loop μ-loop
-loop-holds c =
-    let a = c .before .before .args in
-    let w = c .width-of .ensures in
-    writing-start (a .out .now) (a .at) (a .n) (c .width-of .result) (w .0) (w .1) (w .2)
+loop-holds c = row-start _ _ (omega arith) refl refl
 
-sub-left : tie.Need-sub-left Inv-loop μ-loop
-sub-left c = search needs
+sub-i : tie.Need-sub-i Inv-loop μ-loop
+sub-i c = room (c .before)
 
-mul-power : tie.Need-mul-power Inv-loop μ-loop
-mul-power c = search needs
+add-digits : tie.Need-add-digits Inv-loop μ-loop
+add-digits c = search needs
 
-array-read-power : tie.Need-array-read-power Inv-loop μ-loop
-array-read-power c = search needs
+cast-digits : tie.Need-cast-digits Inv-loop μ-loop
+cast-digits c = search needs
 
-div-out : tie.Need-div-out Inv-loop μ-loop
-div-out c = turn c .divisor
-
-add-out : tie.Need-add-out Inv-loop μ-loop
-add-out c = omega (arith, turn c .digit)
-
-cast-out : tie.Need-cast-out Inv-loop μ-loop
-cast-out c = omega (arith, turn c .digit)
-
-slice-write-out : tie.Need-slice-write-out Inv-loop μ-loop
-slice-write-out c = turn c .room
-
-rem-v : tie.Need-rem-v Inv-loop μ-loop
-rem-v c = turn c .divisor
-
-add-to : tie.Need-add-to Inv-loop μ-loop
-add-to c = omega (arith, turn c .room)
+array-write-digits : tie.Need-array-write-digits Inv-loop μ-loop
+array-write-digits c = search needs
 
 loop-less : tie.Need-loop-less Inv-loop μ-loop
-loop-less c = search needs
+loop-less c = omega (arith, room (c .before))
 
 loop-again : tie.Need-loop-again Inv-loop μ-loop
-loop-again c = turn c .next
+loop-again c = let l = c .before .loop in row-more (c .before .before .before .args .n) (l .digits) (l .v) (l .i) (l .inv) (c .loop-test .taken)
+
+sub-i-2 : tie.Need-sub-i-2 Inv-loop μ-loop
+sub-i-2 c = room (c .before)
+
+add-digits-2 : tie.Need-add-digits-2 Inv-loop μ-loop
+add-digits-2 c = search needs
+
+cast-digits-2 : tie.Need-cast-digits-2 Inv-loop μ-loop
+cast-digits-2 c = search needs
+
+array-write-digits-2 : tie.Need-array-write-digits-2 Inv-loop μ-loop
+array-write-digits-2 c = search needs
+
+sub-put-bytes : tie.Need-sub-put-bytes Inv-loop μ-loop
+sub-put-bytes c = search needs
+
+part-put-bytes-start : tie.Need-part-put-bytes-start Inv-loop μ-loop
+part-put-bytes-start c = search needs
+
+part-put-bytes-end : tie.Need-part-put-bytes-end Inv-loop μ-loop
+part-put-bytes-end c =
+    let l = c .before .before .before .loop in
+    omega (arith, length-set (l .digits) (l .i - 1) (48 + l .v), l .inv .long)
+
+put-bytes-requires : tie.Need-put-bytes-requires Inv-loop μ-loop
+put-bytes-requires c κs = rw (copied (c .before .before .before)) (search needs)
 
 same-length : tie.Need-same-length Inv-loop μ-loop
-same-length c =
-    let b = c .before .before .before .before in
-    let a = b .args in
-    let l = c .before .loop in
-    writing-length (a .out .now) (a .at) (a .n) (b .pre) (l .out) (l .left) (l .v) (l .to) (l .inv)
+same-length c = search needs
 
 returns : tie.Need-returns Inv-loop μ-loop
-returns c =
-    let b = c .before .before .before .before in
-    let a = b .args in
-    let l = c .before .loop in
-    let e : l .left ≡ 0 = omega arith in
-    writing-done (a .out .now) (a .at) (a .n) (b .pre) (l .out) (l .left) (l .v) (l .to) (l .inv) e
+returns c = rw (copied (c .before .before .before .before .before .before)) at (c .before .before .put-bytes .ensures)
 
 pub put-digits-spec : {M : Type 1} → statement M
 put-digits-spec =
@@ -84,18 +86,20 @@ put-digits-spec =
     (tie.spec
     Inv-loop
     μ-loop
-    width-of-requires
     loop-holds
-    sub-left
-    mul-power
-    array-read-power
-    div-out
-    add-out
-    cast-out
-    slice-write-out
-    rem-v
-    add-to
+    sub-i
+    add-digits
+    cast-digits
+    array-write-digits
     loop-less
     loop-again
+    sub-i-2
+    add-digits-2
+    cast-digits-2
+    array-write-digits-2
+    sub-put-bytes
+    part-put-bytes-start
+    part-put-bytes-end
+    put-bytes-requires
     same-length
     returns)
