@@ -6,4 +6,5 @@ pub mod Items
 pub mod Lines
 pub mod Loops
 pub mod NumberLines
+pub mod OneDigit
 pub mod Places

@@ -1,8 +1,11 @@
 -- What the functions of this crate return, for what the forms find.
-use Prim.Native.Nat.{ℕ, _+_}
-use mathlib.Core.Bool.{true, cond}
+use Prim.Native.Nat.{ℕ, _+_, _-_, _*_}
+use mathlib.Core.Bool.{Bool, true, cond, _&&_}
 use mathlib.Core.List.{List}
-use lib.ListN.{length, drop, replicate}
+use lib.Dec.{leb}
+use lib.ListN.{length, getD, drop, replicate}
+use Rattle.laws.specs.All.{allBelow}
+use Rattle.laws.specs.Tabled.{tabled}
 use Rattle.text.specs.declared.NumberRead.{NumberRead}
 use Rattle.text.specs.declared.NumberRead.the-variants.{NoNumber}
 use Rattle.text.specs.Key.{beginsWith}
@@ -13,6 +16,7 @@ use Rattle.form.specs.declared.LineRead.{LineRead}
 use Rattle.form.specs.declared.LineRead.the-variants.{Next, Stopped}
 use Rattle.form.specs.declared.Numbers.{Numbers}
 use Rattle.form.specs.Form.{Found, found, refused}
+use Rattle.form.specs.Line.{itemsText}
 
 -- a line's number
 abbrev pub numberLine : Found ℕ → NumberLine
@@ -36,3 +40,18 @@ numbers f = record { read = lineRead f; items = valueOr (replicate 16 0) f }
 -- a key, a number behind it and the line's end
 abbrev pub keyedField : List ℕ → List ℕ → ℕ → NumberRead
 keyedField key s at = cond (beginsWith key (drop at s)) (fieldAt s (at + length key) true) NoNumber
+
+-- the byte i places behind a position lies between those of two texts
+abbrev pub inBounds : List ℕ → ℕ → List ℕ → List ℕ → ℕ → Bool
+inBounds s at least most i = leb (getD least i 0) (getD s (at + i) 0) && leb (getD s (at + i) 0) (getD most i 0)
+
+-- sixteen numbers of one digit stand at a position, with the line's end: no byte lies below that of sixteen zeros, and none above that of sixteen nines
+unfoldable pub shortAt : List ℕ → ℕ → Bool
+shortAt s at = leb (at + 32) (length s) && allBelow (inBounds s at (itemsText (replicate 16 0)) (itemsText (replicate 16 9))) 32
+
+-- the numbers of such a list: each is a digit with its separator, two bytes
+abbrev pub digitAt : List ℕ → ℕ → ℕ → ℕ
+digitAt s at i = getD s (at + 2 * i) 0 - 48
+
+unfoldable pub shortItems : List ℕ → ℕ → List ℕ
+shortItems s at = tabled (digitAt s at) 0 16

@@ -6,13 +6,14 @@ ghost use mathlib.Core.Path.{_≡_};
 ghost use mathlib.Core.List.{_++_};
 ghost use Prim.Native.Nat.{_+_, _≤_};
 ghost use lib.ListN.{length};
+ghost use Rattle.laws.specs.All.{allBelow};
 ghost use Rattle.laws.specs.Slots.{firstOf, padTo};
 ghost use Rattle.laws.specs.Splice.{Wrote};
 ghost use mathlib.Core.Bool.{true};
 ghost use Rattle.text.specs.Decimal.{field};
 ghost use Rattle.form.specs.Form.{keyed, andThen, found, refused};
 ghost use Rattle.form.specs.Line.{ranged, listed, number, itemsText, itemsAt, itemsRanged, items};
-ghost use Rattle.form.specs.Code.{numberLine, numbers, keyedField};
+ghost use Rattle.form.specs.Code.{numberLine, numbers, keyedField, inBounds, shortAt, shortItems};
 
 // A line's number and the position behind the line, or why there is none.
 pub enum NumberLine {
@@ -153,7 +154,59 @@ pub fn check_items(items: [u32; 16], count: usize, low: u64, high: u64, line: us
     Checked::Passed
 }
 
-// A line with a key and a list of exactly so many numbers: the form of the whole line before the ranges.
+// Whether each of the 32 bytes at a position lies between those of two texts. Without a way out of the loop, several are compared at once.
+fn between<'a>(s: &[u8], at: usize, least: &'a [u8], most: &'a [u8]) -> bool
+    requires { ⌜ (at + 32 ≤ length (now s)) × (length (now least) ≡ 32) × (length (now most) ≡ 32) ⌝ }
+    ensures { λ r. ⌜ r ≡ allBelow (inBounds (now (s .entry)) at (now (least .entry)) (now (most .entry))) 32 ⌝ }
+{
+    let mut ok = true;
+    let mut i: usize = 0;
+    while i < 32 {
+        if s[at + i] < least[i] {
+            ok = false;
+        }
+        if most[i] < s[at + i] {
+            ok = false;
+        }
+        i += 1;
+    }
+    ok
+}
+
+// Whether a list of sixteen numbers of one digit stands at a position, with the line's end.
+fn all_short(s: &[u8], at: usize) -> bool
+    ensures { λ r. ⌜ r ≡ shortAt (now (s .entry)) at ⌝ }
+{
+    if s.len() <= at {
+        return false;
+    }
+    if s.len() - at < 32 {
+        return false;
+    }
+    between(
+        s,
+        at,
+        b"0,0,0,0,0,0,0,0,0,0,0,0,0,0,0,0\n",
+        b"9,9,9,9,9,9,9,9,9,9,9,9,9,9,9,9\n",
+    )
+}
+
+// The numbers of such a list.
+fn short_items(s: &[u8], at: usize) -> [u32; 16]
+    requires { ⌜ shortAt (now s) at ≡ true ⌝ }
+    ensures { λ r. ⌜ r ≡ shortItems (now (s .entry)) at ⌝ }
+{
+    let mut items = [0u32; 16];
+    let mut i: usize = 0;
+    while i < 16 {
+        items[i] = s[at + 2 * i] as u32 - 48;
+        i += 1;
+    }
+    items
+}
+
+// A line with a key and a list of exactly so many numbers: the form of the whole line before the ranges. Sixteen numbers of one digit, as in most
+// rows of a net, are read as a whole.
 pub fn items_line(
     s: &[u8],
     at: usize,
@@ -167,7 +220,20 @@ pub fn items_line(
     ensures { λ r. ⌜ r ≡ numbers (keyed (now (key .entry)) (items count 16 low high) .read (now (s .entry)) at line) ⌝ }
 {
     if text::begins_at(s, at, key) {
-        let list = items_at(s, at + key.len(), count, line);
+        let from = at + key.len();
+        if count == 16 {
+            if low == 0 {
+                if 9 <= high {
+                    if all_short(s, from) {
+                        return Numbers {
+                            read: LineRead::Next(from + 32),
+                            items: short_items(s, from),
+                        };
+                    }
+                }
+            }
+        }
+        let list = items_at(s, from, count, line);
         let read = list.read;
         match read {
             LineRead::Stopped(r) => no_numbers(r),

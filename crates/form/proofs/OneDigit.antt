@@ -1,0 +1,150 @@
+-- A list of sixteen numbers of one digit: each is a digit with its separator, two bytes, so its place in the text is told by its index. A byte
+-- between those of sixteen zeros and of sixteen nines is a digit at an even place, and the separator at an odd one, where the two texts agree.
+use Prim.Native.Nat.{ℕ, zero, suc, _+_, _-_, _*_, _≤_, _<_}
+use native.Mathlib.Nat.{add-zero, le-antisymm, le-of-suc-le-suc, not-suc-le-zero}
+use native.Mathlib.Numerals.{add-one}
+use native.Mathlib.Omega.{arith}
+use mathlib.Core.Bool.{true, false, _&&_, and-true, and-eq-true-iff}
+use mathlib.Core.List.{List, [], _∷_}
+use mathlib.Core.Path.{_≡_, refl, sym, ap, _∙_}
+use lib.Dec.{leb, eqb, lit<}
+use lib.ListN.{length, getD, set, drop, replicate, length-replicate}
+use lib.Seq.{getD-set-same, getD-set-other}
+use borrow.Author.Count.{below-more}
+use borrow.Author.Tests.{leb-true, le-leb, lt-leb, eq-eqb}
+use Rattle.laws.specs.All.{allBelow, all-at}
+use Rattle.laws.specs.Slots.{padTo, first-whole}
+use Rattle.laws.specs.Tabled.{tabled, first-tabled}
+use Rattle.text.specs.declared.NumberRead.the-variants.{Value}
+use Rattle.text.specs.Key.{beginsWith}
+use Rattle.text.specs.Number.{separator, fieldAt}
+use Rattle.text.proofs.DecimalLaws.{decimal-one}
+use Rattle.text.proofs.ReadNumber.{field-one, separated-there}
+use Rattle.form.specs.declared.LineRead.the-variants.{Next}
+use Rattle.form.specs.Form.{found, keyed}
+use Rattle.form.specs.Line.{itemsText, itemsAt, allRanged, items}
+use Rattle.form.specs.Code.{numbers, inBounds, shortAt, digitAt, shortItems}
+
+-- ---- the text of a digit k times
+module _ (d : ℕ) (h : d < 10) where
+  text-next : (k : ℕ) → itemsText (replicate (suc k) d) ≡ (48 + d) ∷ separator (eqb k 0) ∷ itemsText (replicate k d)
+  unfolding itemsText
+  text-next k = rw (length-replicate k d, decimal-one d h) refl
+
+  text-digit : (k i : ℕ) → i < k → getD (itemsText (replicate k d)) (2 * i) 0 ≡ 48 + d
+  text-digit zero i l = absurd (not-suc-le-zero l)
+  text-digit (suc k) zero l = rw (text-next k) refl
+  text-digit (suc k) (suc i) l =
+      let e : 2 * suc i ≡ suc (suc (2 * i)) = omega arith in
+      rw (text-next k, e) (text-digit k i (le-of-suc-le-suc l))
+
+  text-separator : (k i : ℕ) → i < k → getD (itemsText (replicate k d)) (2 * i + 1) 0 ≡ separator (eqb (k - (i + 1)) 0)
+  text-separator zero i l = absurd (not-suc-le-zero l)
+  text-separator (suc k) zero l =
+      let e : suc k - 1 ≡ k = omega arith in
+      rw (text-next k, e) refl
+  text-separator (suc k) (suc i) l =
+      let e : 2 * suc i + 1 ≡ suc (suc (2 * i + 1)) = omega arith in
+      let e′ : suc k - (suc i + 1) ≡ k - (i + 1) = omega arith in
+      rw (text-next k, e, e′) (text-separator k i (le-of-suc-le-suc l))
+
+-- ---- the test
+-- one byte more that is not above
+pub bounds-more : (s : List ℕ) (at : ℕ) (least most : List ℕ) (i : ℕ) → getD s (at + i) 0 ≤ getD most i 0
+    → (allBelow (inBounds s at least most) i && leb (getD least i 0) (getD s (at + i) 0)) ≡ allBelow (inBounds s at least most) (i + 1)
+unfolding allBelow
+bounds-more s at least most i h = rw (add-one, le-leb (getD s (at + i) 0) (getD most i 0) h, and-true) refl
+
+module _ (s : List ℕ) (at : ℕ) where
+  pub short-none : length s < at + 32 → false ≡ shortAt s at
+  unfolding shortAt
+  short-none h = rw (lt-leb (at + 32) (length s) h) refl
+
+  pub short-tested : at + 32 ≤ length s → allBelow (inBounds s at (itemsText (replicate 16 0)) (itemsText (replicate 16 9))) 32 ≡ shortAt s at
+  unfolding shortAt
+  short-tested h = rw (le-leb (at + 32) (length s) h) refl
+
+-- ---- what it says of each number
+pub record Short (s : List ℕ) (at : ℕ) : Type 0 where
+  pub long : at + 32 ≤ length s
+  pub low : (i : ℕ) → i < 16 → 48 ≤ getD s (at + 2 * i) 0
+  pub high : (i : ℕ) → i < 16 → getD s (at + 2 * i) 0 ≤ 57
+  pub behind : (i : ℕ) → i < 16 → getD s (at + (2 * i + 1)) 0 ≡ separator (eqb (16 - (i + 1)) 0)
+
+pub short-there : (s : List ℕ) (at : ℕ) → shortAt s at ≡ true → Short s at
+unfolding shortAt
+short-there s at e =
+    record {
+      long = leb-true (at + 32) (length s) (both .0);
+      low = λ i l. rw (text-digit 0 (lit< tt) 16 i l) at (bounds (2 * i) (omega arith) .0);
+      high = λ i l. rw (text-digit 9 (lit< tt) 16 i l) at (bounds (2 * i) (omega arith) .1);
+      behind = λ i l.
+          let b = bounds (2 * i + 1) (omega arith) in
+          le-antisymm (rw (text-separator 9 (lit< tt) 16 i l) at (b .1)) (rw (text-separator 0 (lit< tt) 16 i l) at (b .0));
+    }
+  where
+    least : List ℕ
+    least = itemsText (replicate 16 0)
+
+    most : List ℕ
+    most = itemsText (replicate 16 9)
+
+    both : (leb (at + 32) (length s) ≡ true) × (allBelow (inBounds s at least most) 32 ≡ true)
+    both = and-eq-true-iff (leb (at + 32) (length s)) (allBelow (inBounds s at least most) 32) .0 e
+
+    bounds : (p : ℕ) → p < 32 → (getD least p 0 ≤ getD s (at + p) 0) × (getD s (at + p) 0 ≤ getD most p 0)
+    bounds p l =
+        let b = getD s (at + p) 0 in
+        let h = and-eq-true-iff (leb (getD least p 0) b) (leb b (getD most p 0)) .0 (all-at (inBounds s at least most) p 32 (both .1) l) in
+        (leb-true (getD least p 0) b (h .0), leb-true b (getD most p 0) (h .1))
+
+-- ---- the numbers, each in its slot
+pub slot-next : (f : ℕ → ℕ) (l : List ℕ) (i : ℕ) → i < length l → ((k : ℕ) → k < i → getD l k 0 ≡ f k) → (k : ℕ) → k < i + 1 → getD (set l i (f i)) k 0 ≡ f k
+slot-next f l i h all = below-more _ i (λ k b. getD-set-other l i k (f i) 0 (λ e. omega arith) ∙ all k b) (getD-set-same l i (f i) 0 h)
+
+pub slots-all : (s : List ℕ) (at : ℕ) (l : List ℕ) → length l ≡ 16 → ((k : ℕ) → k < 16 → getD l k 0 ≡ digitAt s at k) → l ≡ shortItems s at
+unfolding shortItems
+slots-all s at l h all = sym (first-whole 16 0 l h) ∙ first-tabled (digitAt s at) 16 l all
+
+-- ---- the line
+module _ (s : List ℕ) (at line : ℕ) (h : Short s at) where
+  digit-read : (j k : ℕ) → j + suc k ≡ 16 → fieldAt s (at + 2 * j) (eqb k 0) ≡ Value (digitAt s at j) (at + 2 * suc j)
+  digit-read j k e =
+      let p = at + 2 * j in
+      let last : 16 - (j + 1) ≡ k = omega arith in
+      let one : at + (2 * j + 1) ≡ p + 1 = omega arith in
+      let two : p + 2 ≡ at + 2 * suc j = omega arith in
+      let byte : getD s (p + 1) 0 ≡ separator (eqb k 0) = rw (one, last) at (h .behind j (omega arith)) in
+      let ends : beginsWith (separator (eqb k 0) ∷ []) (drop (p + 1) s) ≡ true =
+      sym (separated-there s (p + 1) (eqb k 0) (separator (eqb k 0)) (omega (arith, h .long)) refl) ∙ eq-eqb _ _ byte in
+      rw (← two) (sym (field-one s p (eqb k 0) (omega (arith, h .long)) (h .low j (omega arith)) (h .high j (omega arith)) ends))
+
+  items-read : (k j : ℕ) → j + k ≡ 16 → itemsAt k s (at + 2 * j) line ≡ found (tabled (digitAt s at) j k) (at + 32)
+  unfolding itemsAt
+  items-read zero j e = let end : at + 2 * j ≡ at + 32 = omega arith in rw end refl
+  items-read (suc k) j e = rw (digit-read j k e, items-read k (suc j) (omega arith)) refl
+
+  values-ranged : (high k j : ℕ) → j + k ≡ 16 → 9 ≤ high → allRanged 0 high (tabled (digitAt s at) j k) ≡ true
+  unfolding allRanged
+  values-ranged high zero j e l = refl
+  values-ranged high (suc k) j e l =
+      rw (le-leb 0 (digitAt s at j) (omega arith), le-leb (digitAt s at j) high (omega (arith, h .high j (omega arith))), values-ranged high k (suc j) (omega arith) l) refl
+
+module _ (s : List ℕ) (at line : ℕ) (e : shortAt s at ≡ true) where
+  pub short-found : itemsAt 16 s at line ≡ found (shortItems s at) (at + 32)
+  unfolding shortItems
+  short-found = sym (ap (λ (p : ℕ). itemsAt 16 s p line) (add-zero at)) ∙ items-read s at line (short-there s at e) 16 0 refl
+
+  short-ranged : (high : ℕ) → 9 ≤ high → allRanged 0 high (shortItems s at) ≡ true
+  unfolding shortItems
+  short-ranged high l = values-ranged s at line (short-there s at e) high 16 0 refl l
+
+short-padded : (s : List ℕ) (at : ℕ) → padTo 16 0 (shortItems s at) ≡ shortItems s at
+unfolding shortItems
+short-padded s at = refl
+
+pub items-short : (key s : List ℕ) (at count low high line : ℕ) → beginsWith key (drop at s) ≡ true → count ≡ 16 → low ≡ 0 → 9 ≤ high → shortAt s (at + length key) ≡ true
+    → record { read = Next (at + length key + 32); items = shortItems s (at + length key) } ≡ numbers (keyed key (items count 16 low high) .read s at line)
+items-short key s at count low high line b c z l e =
+    let p = at + length key in
+    rw (b, c, z, short-found s p line e, short-ranged s p line e high l, short-padded s p) refl
