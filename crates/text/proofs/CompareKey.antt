@@ -1,10 +1,10 @@
 -- A key is compared byte by byte: it stands at a position exactly where what is left of it stands behind the bytes passed.
-use Prim.Native.Nat.{ℕ, zero, suc, _+_, _-_, _≤_, _<_, suc-le-suc}
+use Prim.Native.Nat.{ℕ, suc, _+_, _-_, _≤_, _<_}
 use native.Mathlib.Numerals.{add-one}
 use native.Mathlib.Omega.{arith}
-use native.Mathlib.Nat.{add-suc, add-zero, zero-lt-suc}
+use native.Mathlib.Nat.{add-suc, add-zero}
 use mathlib.Core.List.{List, [], _∷_}
-use mathlib.Core.Bool.{true, false, _&&_, and-false, false≢true}
+use mathlib.Core.Bool.{true, false, _&&_, and-false}
 use mathlib.Core.Path.{_≡_, refl, sym, _∙_}
 use lib.ListN.{length, getD, drop, drop-of-length-le, length-drop}
 use lib.Seq.{drop-cons}
@@ -55,11 +55,3 @@ module _ (s : List ℕ) (at : ℕ) (key : List ℕ) (i : ℕ) where
     pub begins-all : length key ≤ i → true ≡ beginsWith key (drop at s)
     unfolding beginsWith
     begins-all m = sym (h .same ∙ rw (drop-of-length-le key m) refl)
-
--- where a key of one byte or more stands, there is a byte
-pub begins-within : (k : ℕ) (key s : List ℕ) (at : ℕ) → beginsWith (k ∷ key) (drop at s) ≡ true → at < length s
-unfolding beginsWith
-begins-within k key [] zero e = absurd (false≢true e)
-begins-within k key [] (suc at) e = absurd (false≢true e)
-begins-within k key (b ∷ s) zero e = zero-lt-suc (length s)
-begins-within k key (b ∷ s) (suc at) e = suc-le-suc (begins-within k key s at e)

@@ -4,7 +4,7 @@ use Prim.Native.Nat.{ℕ, zero, suc, _+_, _-_, _*_, _/_, _%_, _^_, _≤_, _<_}
 use native.Mathlib.Nat.{pow-suc, pow-le-pow-right, mul-le-mul-right, div-lt-iff-lt-mul, div-add-mod', mod-lt}
 use native.Mathlib.Omega.{arith}
 use mathlib.Core.List.{List, [], _∷_, _++_, map, append-assoc}
-use mathlib.Core.Bool.{Bool, true, false, not, cond, _&&_, _||_, or-true, false≢true, and-eq-true-iff}
+use mathlib.Core.Bool.{Bool, true, false, not, cond, _&&_, _||_, and-false, or-true, false≢true, and-eq-true-iff}
 use mathlib.Core.Logic.{_≢_, _⊎_, inl, inr}
 use mathlib.Core.Path.{_≡_, refl, sym, ap, _∙_}
 use lib.ListN.{length, getD, take, drop, length-append, length-drop, length-take}
@@ -19,7 +19,7 @@ use Rattle.text.specs.Key.{beginsWith}
 use Rattle.text.proofs.KeyLaws.{begins-text, begins-split, begins-take}
 use Rattle.text.specs.Number.{isDigit, digitsOf, valueOf, wellFormed, numberOf, numberAt, separator, closed, fieldAt}
 use Rattle.text.specs.Decimal.{digits, width, decimal, field}
-use Rattle.text.proofs.DecimalLaws.{Width, width-least, width-unique, width-right, decimal-width, length-decimal, length-decimal-small, power-positive}
+use Rattle.text.proofs.DecimalLaws.{Width, width-least, width-unique, width-right, decimal-width, length-decimal-small, power-positive}
 
 -- ---- digits and their value
 -- each is the value of a digit
@@ -81,7 +81,7 @@ digits-take (suc k) (b ∷ s) = go (digits-take k s) (isDigit b)
     go h true = cc
     go h false = refl
 
-digit-test : (b : ℕ) → 48 ≤ b → b ≤ 57 → isDigit b ≡ true
+pub digit-test : (b : ℕ) → 48 ≤ b → b ≤ 57 → isDigit b ≡ true
 digit-test b l h = rw (le-leb 48 b l, le-leb b 57 h) refl
 
 -- the digits of a number that was written, up to what is no digit
@@ -130,11 +130,15 @@ width-form ds h w few = rw (le-leb 1 (length ds) (w .one), le-leb (length ds) 9 
 pub long-form : (ds : List ℕ) → 10 ≤ length ds → wellFormed ds ≡ false
 long-form ds h = rw (le-leb 1 (length ds) (omega arith), lt-leb (length ds) 9 h) refl
 
+-- a zero in front of other digits
+pub zero-form : (ds : List ℕ) → 2 ≤ length ds → getD ds 0 0 ≡ 0 → wellFormed ds ≡ false
+zero-form ds h z = rw (ne-eqb (length ds) 1 (λ e. omega arith), z) (and-false (leb 1 (length ds) && leb (length ds) 9))
+
 -- ---- a number at a position
-numberOf-right : (ds : List ℕ) (at : ℕ) → wellFormed ds ≡ true → numberOf ds at ≡ Value (valueOf 0 ds) (at + length ds)
+pub numberOf-right : (ds : List ℕ) (at : ℕ) → wellFormed ds ≡ true → numberOf ds at ≡ Value (valueOf 0 ds) (at + length ds)
 numberOf-right ds at e = ap (λ (t : Bool). cond t (Value (valueOf 0 ds) (at + length ds)) NoNumber) e
 
-numberOf-wrong : (ds : List ℕ) (at : ℕ) → wellFormed ds ≡ false → numberOf ds at ≡ NoNumber
+pub numberOf-wrong : (ds : List ℕ) (at : ℕ) → wellFormed ds ≡ false → numberOf ds at ≡ NoNumber
 numberOf-wrong ds at e = ap (λ (t : Bool). cond t (Value (valueOf 0 ds) (at + length ds)) NoNumber) e
 
 pub number-text : (n at c : ℕ) (s rest : List ℕ) → n < 10 ^ 9 → isDigit c ≡ false → drop at s ≡ decimal n ++ c ∷ rest → numberAt s at ≡ Value n (at + length (decimal n))
@@ -254,9 +258,3 @@ field-take k at last s h = ap (closed (take k s) last) (number-take k at s h) �
         let there = number-split v at m s e in
         let few = length-decimal-small v (there .small) in
         rw (begins-take (separator last ∷ []) s k m (omega (arith, there .end))) refl
-
--- the place behind a number lies within the list
-pub number-within : (s : List ℕ) (at v n : ℕ) → numberAt s at ≡ Value v n → n ≤ length s
-number-within s at v n e =
-    let there = number-split v at n s e in
-    omega (arith, there .end, ap length (there .text) ∙ length-append (decimal v) (drop n s), length-drop at s, length-drop n s, length-decimal v)

@@ -5,7 +5,7 @@ ghost use mathlib.Core.List.{[], _∷_};
 ghost use lib.ListN.{length, drop};
 ghost use Rattle.laws.specs.Splice.{Wrote};
 ghost use Rattle.text.specs.Key.{beginsWith};
-ghost use Rattle.text.specs.Number.{classOf, numberAt, fieldAt, separator};
+ghost use Rattle.text.specs.Number.{classOf, fieldAt, separator};
 ghost use Rattle.text.specs.Decimal.{decimal, field};
 
 // What a byte is to a reader of cards.
@@ -33,53 +33,47 @@ pub enum NumberRead {
     NoNumber,
 }
 
-// The number that stands at a position: one to nine digits, no leading zero.
-pub fn number_at(s: &[u8], at: usize) -> NumberRead
-    ensures { λ r. ⌜ r ≡ numberAt (now (s .entry)) at ⌝ }
-{
-    let mut v: u32 = 0;
-    let mut i: usize = at;
-    'digits: while i < s.len() {
-        let c = class_of(s[i]);
-        let ByteClass::Digit(d) = c else {
-            break 'digits;
-        };
-        if i - at == 9 {
-            return NumberRead::NoNumber;
-        }
-        v = v * 10 + d as u32;
-        i += 1;
-    }
-    if i == at {
-        return NumberRead::NoNumber;
-    }
-    if i - at == 1 {
-        return NumberRead::Value { value: v, next: i };
-    }
-    if s[at] == 48 {
-        return NumberRead::NoNumber;
-    }
-    NumberRead::Value { value: v, next: i }
-}
-
-// The number that stands at a position with its separator: a line end behind the last of a line, else a comma.
+// The number that stands at a position, one to nine digits without a leading zero, with its separator: a line end behind the last of a line, else a comma.
 pub fn field_at(s: &[u8], at: usize, last: bool) -> NumberRead
     ensures { λ r. ⌜ r ≡ fieldAt (now (s .entry)) at last ⌝ }
 {
-    let n = number_at(s, at);
-    match n {
-        NumberRead::NoNumber => NumberRead::NoNumber,
-        NumberRead::Value { value, next } => {
-            if separated(s, next, last) {
-                NumberRead::Value {
-                    value,
-                    next: next + 1,
-                }
-            } else {
-                NumberRead::NoNumber
-            }
-        }
+    if s.len() <= at {
+        return NumberRead::NoNumber;
     }
+    let first = s[at];
+    if first < 48 {
+        return NumberRead::NoNumber;
+    }
+    if 57 < first {
+        return NumberRead::NoNumber;
+    }
+    let end = separator_of(last);
+    let mut v = (first - 48) as u32;
+    let mut i: usize = at + 1;
+    while i < s.len() {
+        let b = s[i];
+        if b == end {
+            return NumberRead::Value {
+                value: v,
+                next: i + 1,
+            };
+        }
+        if b < 48 {
+            return NumberRead::NoNumber;
+        }
+        if 57 < b {
+            return NumberRead::NoNumber;
+        }
+        if first == 48 {
+            return NumberRead::NoNumber;
+        }
+        if i - at == 9 {
+            return NumberRead::NoNumber;
+        }
+        v = v * 10 + (b - 48) as u32;
+        i += 1;
+    }
+    NumberRead::NoNumber
 }
 
 // The same, and quicker where the number has one digit, as most weights of a net.
