@@ -4,7 +4,7 @@ use Prim.Native.Nat.{ℕ, zero, suc, _+_, _-_, _*_, _≤_, _<_}
 use native.Mathlib.Nat.{add-zero, le-antisymm, le-of-suc-le-suc, not-suc-le-zero}
 use native.Mathlib.Numerals.{add-one}
 use native.Mathlib.Omega.{arith}
-use mathlib.Core.Bool.{true, false, _&&_, and-true, and-eq-true-iff}
+use mathlib.Core.Bool.{Bool, true, false, _&&_, and-eq-true-iff}
 use mathlib.Core.List.{List, [], _∷_}
 use mathlib.Core.Path.{_≡_, refl, sym, ap, _∙_}
 use lib.Dec.{leb, eqb, lit<}
@@ -12,7 +12,7 @@ use lib.ListN.{length, getD, set, drop, replicate, length-replicate}
 use lib.Seq.{getD-set-same, getD-set-other}
 use borrow.Author.Count.{below-more}
 use borrow.Author.Tests.{leb-true, le-leb, lt-leb, eq-eqb}
-use Rattle.laws.specs.All.{allBelow, all-at}
+use Rattle.laws.specs.All.{allBelow, all-last, all-fails, all-at}
 use Rattle.laws.specs.Slots.{padTo, first-whole}
 use Rattle.laws.specs.Tabled.{tabled, first-tabled}
 use Rattle.text.specs.declared.NumberRead.the-variants.{Value}
@@ -23,7 +23,7 @@ use Rattle.text.proofs.ReadNumber.{field-one, separated-there}
 use Rattle.form.specs.declared.LineRead.the-variants.{Next}
 use Rattle.form.specs.Form.{found, keyed}
 use Rattle.form.specs.Line.{itemsText, itemsAt, allRanged, items}
-use Rattle.form.specs.Code.{numbers, inBounds, shortAt, digitAt, shortItems}
+use Rattle.form.specs.Code.{numbers, notBelow, notAbove, shortAt, digitAt, shortItems}
 
 -- ---- the text of a digit k times
 module _ (d : ℕ) (h : d < 10) where
@@ -49,20 +49,27 @@ module _ (d : ℕ) (h : d < 10) where
       rw (text-next k, e, e′) (text-separator k i (le-of-suc-le-suc l))
 
 -- ---- the test
--- one byte more that is not above
-pub bounds-more : (s : List ℕ) (at : ℕ) (least most : List ℕ) (i : ℕ) → getD s (at + i) 0 ≤ getD most i 0
-    → (allBelow (inBounds s at least most) i && leb (getD least i 0) (getD s (at + i) 0)) ≡ allBelow (inBounds s at least most) (i + 1)
-unfolding allBelow
-bounds-more s at least most i h = rw (add-one, le-leb (getD s (at + i) 0) (getD most i 0) h, and-true) refl
+-- what was found of the bytes passed, with one byte more
+module _ (f : ℕ → Bool) (i : ℕ) (ok : Bool) where
+  pub tested-fails : f i ≡ false → ok ≡ false → ok ≡ allBelow f (i + 1)
+  tested-fails h e = e ∙ sym (all-fails f i (i + 1) h (omega arith))
+
+  pub tested-more : f i ≡ true → ok ≡ allBelow f i → ok ≡ allBelow f (i + 1)
+  tested-more h e = e ∙ rw add-one (sym (all-last f i h))
 
 module _ (s : List ℕ) (at : ℕ) where
   pub short-none : length s < at + 32 → false ≡ shortAt s at
   unfolding shortAt
   short-none h = rw (lt-leb (at + 32) (length s) h) refl
 
-  pub short-tested : at + 32 ≤ length s → allBelow (inBounds s at (itemsText (replicate 16 0)) (itemsText (replicate 16 9))) 32 ≡ shortAt s at
-  unfolding shortAt
-  short-tested h = rw (le-leb (at + 32) (length s) h) refl
+  module _ (h : at + 32 ≤ length s) where
+    pub short-low : allBelow (notBelow s at (itemsText (replicate 16 0))) 32 ≡ false → false ≡ shortAt s at
+    unfolding shortAt
+    short-low e = rw (le-leb (at + 32) (length s) h, e) refl
+
+    pub short-tested : allBelow (notBelow s at (itemsText (replicate 16 0))) 32 ≡ true → allBelow (notAbove s at (itemsText (replicate 16 9))) 32 ≡ shortAt s at
+    unfolding shortAt
+    short-tested e = rw (le-leb (at + 32) (length s) h, e) refl
 
 -- ---- what it says of each number
 pub record Short (s : List ℕ) (at : ℕ) : Type 0 where
@@ -75,12 +82,12 @@ pub short-there : (s : List ℕ) (at : ℕ) → shortAt s at ≡ true → Short 
 unfolding shortAt
 short-there s at e =
     record {
-      long = leb-true (at + 32) (length s) (both .0);
-      low = λ i l. rw (text-digit 0 (lit< tt) 16 i l) at (bounds (2 * i) (omega arith) .0);
-      high = λ i l. rw (text-digit 9 (lit< tt) 16 i l) at (bounds (2 * i) (omega arith) .1);
+      long = leb-true (at + 32) (length s) (front .0);
+      low = λ i l. rw (text-digit 0 (lit< tt) 16 i l) at (not-below (2 * i) (omega arith));
+      high = λ i l. rw (text-digit 9 (lit< tt) 16 i l) at (not-above (2 * i) (omega arith));
       behind = λ i l.
-          let b = bounds (2 * i + 1) (omega arith) in
-          le-antisymm (rw (text-separator 9 (lit< tt) 16 i l) at (b .1)) (rw (text-separator 0 (lit< tt) 16 i l) at (b .0));
+          le-antisymm (rw (text-separator 9 (lit< tt) 16 i l) at (not-above (2 * i + 1) (omega arith)))
+          (rw (text-separator 0 (lit< tt) 16 i l) at (not-below (2 * i + 1) (omega arith)));
     }
   where
     least : List ℕ
@@ -89,14 +96,17 @@ short-there s at e =
     most : List ℕ
     most = itemsText (replicate 16 9)
 
-    both : (leb (at + 32) (length s) ≡ true) × (allBelow (inBounds s at least most) 32 ≡ true)
-    both = and-eq-true-iff (leb (at + 32) (length s)) (allBelow (inBounds s at least most) 32) .0 e
+    both : ((leb (at + 32) (length s) && allBelow (notBelow s at least) 32) ≡ true) × (allBelow (notAbove s at most) 32 ≡ true)
+    both = and-eq-true-iff (leb (at + 32) (length s) && allBelow (notBelow s at least) 32) (allBelow (notAbove s at most) 32) .0 e
 
-    bounds : (p : ℕ) → p < 32 → (getD least p 0 ≤ getD s (at + p) 0) × (getD s (at + p) 0 ≤ getD most p 0)
-    bounds p l =
-        let b = getD s (at + p) 0 in
-        let h = and-eq-true-iff (leb (getD least p 0) b) (leb b (getD most p 0)) .0 (all-at (inBounds s at least most) p 32 (both .1) l) in
-        (leb-true (getD least p 0) b (h .0), leb-true b (getD most p 0) (h .1))
+    front : (leb (at + 32) (length s) ≡ true) × (allBelow (notBelow s at least) 32 ≡ true)
+    front = and-eq-true-iff (leb (at + 32) (length s)) (allBelow (notBelow s at least) 32) .0 (both .0)
+
+    not-below : (p : ℕ) → p < 32 → getD least p 0 ≤ getD s (at + p) 0
+    not-below p l = leb-true (getD least p 0) (getD s (at + p) 0) (all-at (notBelow s at least) p 32 (front .1) l)
+
+    not-above : (p : ℕ) → p < 32 → getD s (at + p) 0 ≤ getD most p 0
+    not-above p l = leb-true (getD s (at + p) 0) (getD most p 0) (all-at (notAbove s at most) p 32 (both .1) l)
 
 -- ---- the numbers, each in its slot
 pub slot-next : (f : ℕ → ℕ) (l : List ℕ) (i : ℕ) → i < length l → ((k : ℕ) → k < i → getD l k 0 ≡ f k) → (k : ℕ) → k < i + 1 → getD (set l i (f i)) k 0 ≡ f k

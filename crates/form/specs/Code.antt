@@ -41,13 +41,16 @@ numbers f = record { read = lineRead f; items = valueOr (replicate 16 0) f }
 abbrev pub keyedField : List ℕ → List ℕ → ℕ → NumberRead
 keyedField key s at = cond (beginsWith key (drop at s)) (fieldAt s (at + length key) true) NoNumber
 
--- the byte i places behind a position lies between those of two texts
-abbrev pub inBounds : List ℕ → ℕ → List ℕ → List ℕ → ℕ → Bool
-inBounds s at least most i = leb (getD least i 0) (getD s (at + i) 0) && leb (getD s (at + i) 0) (getD most i 0)
+-- the byte i places behind a position does not lie below that of a text, or above
+abbrev pub notBelow : List ℕ → ℕ → List ℕ → ℕ → Bool
+notBelow s at least i = leb (getD least i 0) (getD s (at + i) 0)
+
+abbrev pub notAbove : List ℕ → ℕ → List ℕ → ℕ → Bool
+notAbove s at most i = leb (getD s (at + i) 0) (getD most i 0)
 
 -- sixteen numbers of one digit stand at a position, with the line's end: no byte lies below that of sixteen zeros, and none above that of sixteen nines
 unfoldable pub shortAt : List ℕ → ℕ → Bool
-shortAt s at = leb (at + 32) (length s) && allBelow (inBounds s at (itemsText (replicate 16 0)) (itemsText (replicate 16 9))) 32
+shortAt s at = leb (at + 32) (length s) && allBelow (notBelow s at (itemsText (replicate 16 0))) 32 && allBelow (notAbove s at (itemsText (replicate 16 9))) 32
 
 -- the numbers of such a list: each is a digit with its separator, two bytes
 abbrev pub digitAt : List ℕ → ℕ → ℕ → ℕ

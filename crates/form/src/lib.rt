@@ -5,7 +5,8 @@ use text::NumberRead;
 ghost use mathlib.Core.Path.{_≡_};
 ghost use mathlib.Core.List.{_++_};
 ghost use Prim.Native.Nat.{_+_, _≤_};
-ghost use lib.ListN.{length};
+ghost use lib.Dec.{leb};
+ghost use lib.ListN.{length, getD};
 ghost use Rattle.laws.specs.All.{allBelow};
 ghost use Rattle.laws.specs.Slots.{firstOf, padTo};
 ghost use Rattle.laws.specs.Splice.{Wrote};
@@ -13,7 +14,7 @@ ghost use mathlib.Core.Bool.{true};
 ghost use Rattle.text.specs.Decimal.{field};
 ghost use Rattle.form.specs.Form.{keyed, andThen, found, refused};
 ghost use Rattle.form.specs.Line.{ranged, listed, number, itemsText, itemsAt, itemsRanged, items};
-ghost use Rattle.form.specs.Code.{numberLine, numbers, keyedField, inBounds, shortAt, shortItems};
+ghost use Rattle.form.specs.Code.{numberLine, numbers, keyedField, shortAt, shortItems};
 
 // A line's number and the position behind the line, or why there is none.
 pub enum NumberLine {
@@ -154,10 +155,10 @@ pub fn check_items(items: [u32; 16], count: usize, low: u64, high: u64, line: us
     Checked::Passed
 }
 
-// Whether each of the 32 bytes at a position lies between those of two texts. Without a way out of the loop, several are compared at once.
-fn between<'a>(s: &[u8], at: usize, least: &'a [u8], most: &'a [u8]) -> bool
-    requires { ⌜ (at + 32 ≤ length (now s)) × (length (now least) ≡ 32) × (length (now most) ≡ 32) ⌝ }
-    ensures { λ r. ⌜ r ≡ allBelow (inBounds (now (s .entry)) at (now (least .entry)) (now (most .entry))) 32 ⌝ }
+// Whether none of the 32 bytes at a position lies below that of a text. Without a way out of the loop, several are compared at once.
+fn none_below(s: &[u8], at: usize, least: &[u8]) -> bool
+    requires { ⌜ (at + 32 ≤ length (now s)) × (length (now least) ≡ 32) ⌝ }
+    ensures { λ r. ⌜ r ≡ allBelow (λ i. leb (getD (now (least .entry)) i 0) (getD (now (s .entry)) (at + i) 0)) 32 ⌝ }
 {
     let mut ok = true;
     let mut i: usize = 0;
@@ -165,6 +166,19 @@ fn between<'a>(s: &[u8], at: usize, least: &'a [u8], most: &'a [u8]) -> bool
         if s[at + i] < least[i] {
             ok = false;
         }
+        i += 1;
+    }
+    ok
+}
+
+// Whether none of them lies above that of a text.
+fn none_above(s: &[u8], at: usize, most: &[u8]) -> bool
+    requires { ⌜ (at + 32 ≤ length (now s)) × (length (now most) ≡ 32) ⌝ }
+    ensures { λ r. ⌜ r ≡ allBelow (λ i. leb (getD (now (s .entry)) (at + i) 0) (getD (now (most .entry)) i 0)) 32 ⌝ }
+{
+    let mut ok = true;
+    let mut i: usize = 0;
+    while i < 32 {
         if most[i] < s[at + i] {
             ok = false;
         }
@@ -183,12 +197,10 @@ fn all_short(s: &[u8], at: usize) -> bool
     if s.len() - at < 32 {
         return false;
     }
-    between(
-        s,
-        at,
-        b"0,0,0,0,0,0,0,0,0,0,0,0,0,0,0,0\n",
-        b"9,9,9,9,9,9,9,9,9,9,9,9,9,9,9,9\n",
-    )
+    if none_below(s, at, b"0,0,0,0,0,0,0,0,0,0,0,0,0,0,0,0\n") {
+        return none_above(s, at, b"9,9,9,9,9,9,9,9,9,9,9,9,9,9,9,9\n");
+    }
+    false
 }
 
 // The numbers of such a list.

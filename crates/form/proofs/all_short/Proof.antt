@@ -1,10 +1,10 @@
 -- The two texts are those of sixteen zeros and of sixteen nines.
 use native.Mathlib.Omega.{arith}
-use mathlib.Core.Path.{_∙_}
+use mathlib.Core.Path.{sym, _∙_}
 use borrow.Author.Needs.{needs}
 use Rattle.text.specs.Decimal.{digits, width, decimal}
 use Rattle.form.specs.Line.{itemsText}
-use Rattle.form.proofs.OneDigit.{short-none, short-tested}
+use Rattle.form.proofs.OneDigit.{short-none, short-low, short-tested}
 use Rattle.form.proofs.all_short.Statement.{statement}
 use Rattle.form.proofs.all_short.Tie as tie
 
@@ -12,25 +12,35 @@ returns : tie.Need-returns
 returns c = let a = c .before .before .args in short-none (a .s .now) (a .at) (omega arith)
 
 sub-if2 : tie.Need-sub-if2
-sub-if2 c = omega arith
+sub-if2 c = search needs
 
 returns-2 : tie.Need-returns-2
 returns-2 c = let a = c .before .before .before .args in short-none (a .s .now) (a .at) (omega arith)
 
-slice-aggregate-between : tie.Need-slice-aggregate-between
-slice-aggregate-between c = search needs
+slice-aggregate-none-below : tie.Need-slice-aggregate-none-below
+slice-aggregate-none-below c = search needs
 
-slice-aggregate-between-2 : tie.Need-slice-aggregate-between-2
-slice-aggregate-between-2 c = search needs
+none-below-requires : tie.Need-none-below-requires
+none-below-requires c κs = search needs
 
-between-requires : tie.Need-between-requires
-between-requires c κs = search needs
+slice-aggregate-none-above : tie.Need-slice-aggregate-none-above
+slice-aggregate-none-above c = search needs
+
+none-above-requires : tie.Need-none-above-requires
+none-above-requires c κs = search needs
 
 returns-3 : tie.Need-returns-3
 unfolding itemsText digits width decimal
 returns-3 c =
+    let t = c .before .before in
+    let a = t .before .before .before .before .before .before .args in
+    c .none-above .ensures ∙ short-tested (a .s .now) (a .at) (omega arith) (sym (t .before .none-below .ensures) ∙ t .if3 .taken)
+
+returns-4 : tie.Need-returns-4
+unfolding itemsText digits width decimal
+returns-4 c =
     let a = c .before .before .before .before .before .before .args in
-    c .between .ensures ∙ short-tested (a .s .now) (a .at) (omega arith)
+    short-low (a .s .now) (a .at) (omega arith) (sym (c .before .none-below .ensures) ∙ c .if3 .left)
 
 pub all-short-spec : {M : Type 1} → statement M
 all-short-spec =
@@ -39,7 +49,9 @@ all-short-spec =
     returns
     sub-if2
     returns-2
-    slice-aggregate-between
-    slice-aggregate-between-2
-    between-requires
-    returns-3)
+    slice-aggregate-none-below
+    none-below-requires
+    slice-aggregate-none-above
+    none-above-requires
+    returns-3
+    returns-4)
