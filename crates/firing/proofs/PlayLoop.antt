@@ -1,9 +1,9 @@
 -- The loop over a run's firings: the firings that are left, played from the state so far, come to what the whole run comes to. No clock restarts in the
 -- future, and since each wait is a number of 32 bits, the present instant stays far below 64 bits.
-use Prim.Native.Nat.{ℕ, _+_, _*_, _≤_, _<_}
+use Prim.Native.Nat.{ℕ, _+_, _-_, _*_, _≤_, _<_}
 use native.Mathlib.Omega.{arith}
 use mathlib.Core.Path.{_≡_, refl, sym, ap, subst, _∙_}
-use lib.ListN.{getD, drop, replicate, drop-of-length-le}
+use lib.ListN.{length, getD, drop, replicate, length-replicate, drop-of-length-le}
 use Rattle.laws.specs.Slots.{firstOf, length-first, getD-first, getD-within, first-replicate}
 use Rattle.laws.specs.SlotSteps.{first-next}
 use Rattle.reply.specs.declared.Refusal.{Refusal}
@@ -21,7 +21,7 @@ use Rattle.firing.specs.declared.Played.{Played}
 use Rattle.firing.specs.declared.Rows.{Rows}
 use Rattle.firing.specs.Semantics.{startMarking}
 use Rattle.firing.specs.Replay.{ruleOf, startState, waited, fired, judged, stepOn, play, firingsOf}
-use Rattle.firing.specs.Rows.{HoldsWithin, judgedIn, FiredIn, standing, playedAs}
+use Rattle.firing.specs.Rows.{Holds, judgedIn, FiredIn, standing, playedAs}
 use Rattle.firing.proofs.Clocks.{Past, past-waited, past-fired}
 use Rattle.firing.proofs.Accept.{start-past}
 use Rattle.firing.proofs.RowLaws.{unlisted, judged-same, fired-same}
@@ -52,8 +52,10 @@ module _ (net : Net) (run : Run) where
     pub same : whole ≡ rest (counted st) i
     pub past : Past (counted st)
     pub soon : st .now ≤ i * 4294967295
+    pub long : (length (st .marking) ≡ 16) × (length (st .since) ≡ 32)
 
-  module _ (st : State) (m : firstOf (net .places) 0 (st .marking) ≡ firstOf (net .places) 0 (net .start)) (s : st .since ≡ replicate 32 0) (z : st .now ≡ 0) where
+  module _ (st : State) (m : firstOf (net .places) 0 (st .marking) ≡ firstOf (net .places) 0 (net .start)) (s : st .since ≡ replicate 32 0) (z : st .now ≡ 0)
+      (long : length (st .marking) ≡ 16) where
     at-start : startState net ≡ counted st
     at-start = start-standing net st m s z
 
@@ -64,6 +66,7 @@ module _ (net : Net) (run : Run) where
           same = ap (λ (x : State). rest x 0) at-start;
           past = subst (λ (x : State). Past x) at-start (start-past net (ruleOf net (run .memory)) (run .denominator));
           soon = omega arith;
+          long = (long, ap length s ∙ length-replicate {A = ℕ} 32 0);
         }
 
   module _ (st : State) (i : ℕ) (s : Playing st i) where
@@ -93,13 +96,14 @@ module _ (net : Net) (run : Run) where
     pub playing-unlisted : i < run .count → net .transitions ≤ next .fire → result (record { checked = Refused (NotEnabled (i + 1)); state = st }) ≡ whole
     playing-unlisted l h = refuses (NotEnabled (i + 1)) l (unlisted net (run .denominator) (counted later) (next .fire) (i + 1) h)
 
-    module _ (rows : Rows) (held : HoldsWithin rows (net .table) (net .transitions) (net .places)) (l : i < run .count) (listed : next .fire < net .transitions)
+    module _ (rows : Rows) (held : Holds rows (net .table) (net .transitions) (net .places)) (l : i < run .count) (listed : next .fire < net .transitions)
         (slot : net .transitions ≤ 32) (d : Transition) (c : Checked)
-        (is : c ≡ judgedIn (rows .take) (rows .give) (getD (net .table) (next .fire) d) later (net .places) (run .denominator) (next .fire) (i + 1)) where
+        (is : c ≡ judgedIn (rows .take) (rows .give) (getD (net .table) (next .fire) d) (st .marking) (st .now + next .wait - getD (st .since) (next .fire) 0) (net .places)
+        (run .denominator) (next .fire) (i + 1)) where
       judgement : c ≡ judged net (run .denominator) (counted later) (next .fire) (i + 1)
       judgement =
           is
-          ∙ ap (λ (x : Transition). judgedIn (rows .take) (rows .give) x later (net .places) (run .denominator) (next .fire) (i + 1))
+          ∙ ap (λ (x : Transition). judgedIn (rows .take) (rows .give) x (st .marking) (st .now + next .wait - getD (st .since) (next .fire) 0) (net .places) (run .denominator) (next .fire) (i + 1))
           (getD-within (net .table) (next .fire) d noTransition (omega (arith, held .full)))
           ∙ judged-same net rows held later (next .fire) listed (run .denominator) (i + 1)
 
@@ -107,14 +111,15 @@ module _ (net : Net) (run : Run) where
       playing-refused r e = rw e (refuses r l (sym judgement ∙ e))
 
       pub playing-more : c ≡ Passed → next .wait ≤ 4294967295 → (after : State)
-          → FiredIn (rows .take) (rows .give) later (net .places) (net .transitions) (run .memory) (next .fire) after → Playing after (i + 1)
+          → FiredIn (rows .take) (rows .give) later (net .places) (run .memory) (next .fire) after → Playing after (i + 1)
       unfolding waited
       playing-more e short after f =
-          let same = fired-same net rows held later (next .fire) listed (run .memory) after f in
+          let same = fired-same net rows held later (next .fire) listed (run .memory) after slot f in
           let rule = ruleOf net (run .memory) in
           record {
             within = omega arith;
             same = s .same ∙ turn l ∙ rw (sym judgement ∙ e, same) refl;
             past = subst (λ (x : State). Past x) (sym same) (past-fired net rule (counted later) (next .fire) (past-waited (counted st) (next .wait) (s .past)));
             soon = omega (arith, f .now, s .soon);
+            long = (f .long .0 ∙ s .long .0, f .long .1 ∙ s .long .1);
           }

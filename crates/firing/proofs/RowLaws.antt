@@ -13,10 +13,8 @@ use lib.Dec.{leb}
 use lib.ListN.{length, getD, replicate, getD-replicate, length-replicate}
 use borrow.Author.Tests.{lt-ltb, le-ltb, le-leb}
 use Rattle.laws.specs.All.{allBelow, all-same, all-past}
-use Rattle.laws.specs.Slots.{firstOf, getD-first, getD-within}
-use Rattle.laws.specs.Splice.{spliced, length-spliced}
-use Rattle.laws.specs.SplicedEntries.{entry-before, entry-within}
-use Rattle.laws.specs.Tabled.{tabled, entry, tabled-same}
+use Rattle.laws.specs.Slots.{firstOf, getD-first, getD-within, first-whole}
+use Rattle.laws.specs.Tabled.{entry, length-tabled, tabled-same, first-tabled}
 use Rattle.reply.specs.declared.Refusal.the-variants.{NotEnabled, OutsideInterval, TooManyTokens}
 use Rattle.reply.specs.declared.Checked.the-variants.{Passed, Refused}
 use Rattle.net.specs.declared.Transition.{Transition}
@@ -26,80 +24,88 @@ use Rattle.run.specs.declared.Memory.{Memory}
 use Rattle.run.specs.declared.Memory.the-variants.{Intermediate, Atomic}
 use Rattle.firing.specs.declared.State.{State}
 use Rattle.firing.specs.declared.Rows.{Rows}
-use Rattle.firing.specs.declared.Moved.{Moved}
 use Rattle.firing.specs.Semantics.{transitionAt, takes, gives, enabled, taken, after, intermediate, atomic}
 use Rattle.firing.specs.Replay.{ruleOf, clockOf, inInterval, bounded, fired, judged}
-use Rattle.firing.specs.Rows.{HoldsWithin, Blank, weightIn, enoughIn, limitIn, timely, Moves, lookedAt, restartIn, judgedIn, FiredIn, standing}
-use Rattle.firing.proofs.Scan.{Filled, hasEnough, leaves, holds, keepsLimit}
+use Rattle.firing.specs.Rows.{Stored, InBytes, Blank, Columns, Holds, enoughIn, limitIn, timely, middleIn, laterIn, restartIn, judgedIn, FiredIn, standing}
+use Rattle.firing.proofs.Scan.{hasEnough, leaves, holds, keepsLimit}
 
 -- ---- the rows are stored one behind the other
 pub record RowsUpTo (weights : Transition → List ℕ) (table : List Transition) (places t : ℕ) (flat : List ℕ) : Type 0 where
   pub long : length flat ≡ 512
-  pub held : (u p : ℕ) → u < t → p < 16 → getD flat (16 * u + p) 0 ≡ weightIn places (weights (getD table u noTransition)) p
+  pub held : (u p : ℕ) → u < t → p < places → getD flat (16 * u + p) 0 ≡ getD (weights (getD table u noTransition)) p 0
+  pub blank : Blank flat places
 
 pub rows-start : (weights : Transition → List ℕ) (table : List Transition) (places : ℕ) → RowsUpTo weights table places 0 (replicate 512 0)
-rows-start weights table places = record { long = length-replicate {A = ℕ} 512 0; held = λ u p l. absurd (not-suc-le-zero l) }
-
-module _ {weights : Transition → List ℕ} {table : List Transition} {places t : ℕ} {flat : List ℕ} (s : RowsUpTo weights table places t flat) where
-  pub rows-more : (d : Transition) (row next : List ℕ) → t < 32 → length table ≡ 32 → ((p : ℕ) → p < 16 → getD row p 0 ≡ weightIn places (weights (getD table t d)) p)
-      → length row ≡ 16 → next ≡ spliced flat (16 * t) row → RowsUpTo weights table places (t + 1) next
-  rows-more d row next l long is e q =
-      let same : getD table t d ≡ getD table t noTransition = getD-within table t d noTransition (omega arith) in
-      let room : 16 * t + length row ≤ length flat = omega (arith, s .long) in
-      record {
-        long = rw q (length-spliced flat (16 * t) row row room ∙ s .long);
-        held = λ u p b h.
-            ⊎-elim
-            (λ (z : u ≡ t). rw (q, z) (entry-within flat (16 * t) row (omega arith) p (omega arith) ∙ is p h ∙ ap (λ (x : Transition). weightIn places (weights x) p) same))
-            (λ (z : u < t). rw q (entry-before flat (16 * t) row (omega arith) (16 * u + p) (omega arith) ∙ s .held u p z h))
-            (eq-or-lt-of-le (le-of-suc-le-suc (rw add-one at b)));
-      }
-
-weight-within : (places : ℕ) (weights : List ℕ) (p : ℕ) → p < places → weightIn places weights p ≡ getD weights p 0
-weight-within places weights p l = rw (lt-ltb p places l) refl
-
-weight-past : (places : ℕ) (weights : List ℕ) (p : ℕ) → places ≤ p → weightIn places weights p ≡ 0
-weight-past places weights p l = rw (le-ltb p places l) refl
-
--- an array of zeros with the first weights stored
-pub weight-stored : (places p : ℕ) (weights row : List ℕ) → p ≤ places → places ≤ p → Filled 0 (replicate 16 0) (λ k. getD weights k 0) p row
-    → (k : ℕ) → k < 16 → getD row k 0 ≡ weightIn places weights k
-weight-stored places p weights row a l s k h = go (decLt k places)
-  where
-    go : Dec (k < places) → getD row k 0 ≡ weightIn places weights k
-    go (yes b) = s .passed k (omega arith) ∙ sym (weight-within places weights k b)
-    go (no n) = s .left k (omega arith) ∙ getD-replicate 16 k 0 0 h ∙ sym (weight-past places weights k (omega arith))
-
-pub rows-hold : (rows : Rows) (table : List Transition) (t transitions places : ℕ) → length table ≡ 32 → transitions ≤ t → places ≤ 16
-    → RowsUpTo (λ x. x .take) table places t (rows .take) → RowsUpTo (λ x. x .give) table places t (rows .give) → HoldsWithin rows table transitions places
-rows-hold rows table t transitions places full l few a b =
+rows-start weights table places =
     record {
-      full = full;
-      taken = λ u p h c. a .held u p (omega arith) (omega arith) ∙ weight-within places (getD table u noTransition .take) p c;
-      given = λ u p h c. b .held u p (omega arith) (omega arith) ∙ weight-within places (getD table u noTransition .give) p c;
-      blank = λ u p h c d. a .held u p (omega arith) d ∙ weight-past places (getD table u noTransition .take) p c;
+      long = length-replicate {A = ℕ} 512 0;
+      held = λ u p l. absurd (not-suc-le-zero l);
+      blank = λ u p l a b. getD-replicate {A = ℕ} 512 (16 * u + p) 0 0 (omega arith);
     }
 
+pub rows-more : {weights : Transition → List ℕ} {table : List Transition} {places t : ℕ} {flat next : List ℕ} → RowsUpTo weights table places t flat
+    → (d : Transition) → places ≤ 16 → t < length table → Stored 0 flat (λ p. 16 * t + p) (λ p. getD (weights (getD table t d)) p 0) places next
+    → RowsUpTo weights table places (t + 1) next
+rows-more {weights} {table} {places} {t} {flat} {next} s d few l r =
+    record {
+      long = r .long ∙ s .long;
+      held = λ u p b h.
+          ⊎-elim
+          (λ (z : u ≡ t). rw z (r .stored p h ∙ ap (λ (x : Transition). getD (weights x) p 0) (getD-within table t d noTransition l)))
+          (λ (z : u < t). r .kept (16 * u + p) (λ k c e. omega arith) ∙ s .held u p z h)
+          (eq-or-lt-of-le (le-of-suc-le-suc (rw add-one at b)));
+      blank = λ u p b h c. r .kept (16 * u + p) (λ k v e. omega arith) ∙ s .blank u p b h c;
+    }
+
+-- what is stored fits a byte
+module _ (net : Net) (small : InBytes net) (full : length (net .table) ≡ 32) (few : net .transitions ≤ 32) (d : Transition) (t : ℕ) (l : t < net .transitions) where
+  same-row : getD (net .table) t d ≡ getD (net .table) t noTransition
+  same-row = getD-within (net .table) t d noTransition (omega arith)
+
+  pub taken-small : (p : ℕ) → p < net .places → getD (getD (net .table) t d .take) p 0 ≤ 255
+  taken-small p h = rw same-row (small .take t p l h)
+
+  pub given-small : (p : ℕ) → p < net .places → getD (getD (net .table) t d .give) p 0 ≤ 255
+  given-small p h = rw same-row (small .give t p l h)
+
+-- ---- and what is taken by places with them
+pub columns-start : Columns (replicate 512 0) (replicate 512 0)
+columns-start t p l h = getD-replicate {A = ℕ} 512 (32 * p + t) 0 0 (omega arith) ∙ sym (getD-replicate {A = ℕ} 512 (16 * t + p) 0 0 (omega arith))
+
+pub columns-more : {column take column′ take′ : List ℕ} {f : ℕ → ℕ} {places : ℕ} (t : ℕ) → Columns column take → places ≤ 16 → t < 32
+    → Stored 0 take (λ p. 16 * t + p) f places take′ → Stored 0 column (λ p. 32 * p + t) f places column′ → Columns column′ take′
+columns-more {column} {take} {column′} {take′} {f} {places} t s few l r c u p h b = go (decLt p places) (decLt u t) (decLt t u)
+  where
+    other : ((k : ℕ) → k < places → 32 * p + u ≡ 32 * k + t → ⊥) → ((k : ℕ) → k < places → 16 * u + p ≡ 16 * t + k → ⊥)
+        → getD column′ (32 * p + u) 0 ≡ getD take′ (16 * u + p) 0
+    other x y = c .kept (32 * p + u) x ∙ s u p h b ∙ sym (r .kept (16 * u + p) y)
+
+    go : Dec (p < places) → Dec (u < t) → Dec (t < u) → getD column′ (32 * p + u) 0 ≡ getD take′ (16 * u + p) 0
+    go (no n) y z = other (λ k v e. omega arith) (λ k v e. omega arith)
+    go (yes a) (yes y) z = other (λ k v e. omega arith) (λ k v e. omega arith)
+    go (yes a) (no y) (yes z) = other (λ k v e. omega arith) (λ k v e. omega arith)
+    go (yes a) (no y) (no z) = let e : u ≡ t = omega arith in rw e (c .stored p a ∙ sym (r .stored p a))
+
+pub rows-hold : (rows : Rows) (table : List Transition) (t transitions places : ℕ) → length table ≡ 32 → transitions ≤ t
+    → RowsUpTo (λ x. x .take) table places t (rows .take) → RowsUpTo (λ x. x .give) table places t (rows .give) → Columns (rows .column) (rows .take)
+    → Holds rows table transitions places
+rows-hold rows table t transitions places full l a b c =
+    record { full = full; taken = λ u p h. a .held u p (omega arith); given = λ u p h. b .held u p (omega arith); blank = a .blank; columns = c }
+
 -- ---- zeros past the places: all sixteen slots are tested, and the places decide
-module _ (take : List ℕ) (transitions places : ℕ) (few : places ≤ 16) (blank : Blank take transitions places) where
-  enough-cut : (m : List ℕ) (u : ℕ) → u < transitions → enoughIn take (16 * u) m 16 ≡ enoughIn take (16 * u) m places
-  unfolding enoughIn
-  enough-cut m u l =
-      let e : 16 ≡ places + (16 - places) = omega arith in
-      ap (allBelow (hasEnough take (16 * u) m)) e
-      ∙ all-past (hasEnough take (16 * u) m) places (16 - places) (λ p a b. le-leb (getD take (16 * u + p) 0) (getD m p 0) (omega (arith, blank u p l a (omega arith))))
+pub enough-cut : (take : List ℕ) (places : ℕ) → places ≤ 16 → Blank take places → (m : List ℕ) (u : ℕ) → u < 32
+    → enoughIn take (16 * u) m 16 ≡ enoughIn take (16 * u) m places
+unfolding enoughIn
+enough-cut take places few blank m u l =
+    let e : 16 ≡ places + (16 - places) = omega arith in
+    ap (allBelow (hasEnough take (16 * u) m)) e
+    ∙ all-past (hasEnough take (16 * u) m) places (16 - places) (λ p a b. le-leb (getD take (16 * u + p) 0) (getD m p 0) (omega (arith, blank u p l a (omega arith))))
 
-  restart-cut : (before middle later : List ℕ) (memory : Memory) (t u : ℕ) → u < transitions
-      → restartIn take before middle later 16 memory t u ≡ restartIn take before middle later places memory t u
-  unfolding restartIn
-  restart-cut before middle later memory t u l = rw (enough-cut later u l, enough-cut (lookedAt memory before middle) u l) refl
-
-  pub since-cut : (st : State) (m : Moved) (memory : Memory) (t : ℕ)
-      → tabled (λ (u : ℕ). cond (restartIn take (st .marking) (m .middle) (m .later) 16 memory t u) (st .now) (getD (st .since) u 0)) 0 transitions
-      ≡ tabled (λ (u : ℕ). cond (restartIn take (st .marking) (m .middle) (m .later) places memory t u) (st .now) (getD (st .since) u 0)) 0 transitions
-  since-cut st m memory t =
-      tabled-same _ _ transitions
-      (λ u l. ap (λ (b : Bool). cond b (st .now) (getD (st .since) u 0)) (restart-cut (st .marking) (m .middle) (m .later) memory t u l))
+-- the places alone are asked
+pub enough-like : (take : List ℕ) (row : ℕ) (m m′ : List ℕ) (places : ℕ) → ((p : ℕ) → p < places → getD m p 0 ≡ getD m′ p 0)
+    → enoughIn take row m places ≡ enoughIn take row m′ places
+unfolding enoughIn
+enough-like take row m m′ places h = all-same (hasEnough take row m) (hasEnough take row m′) places (λ p l. rw (h p l) refl)
 
 -- ---- what is computed over rows is what is defined over the net
 -- a transition that is not in the net
@@ -125,7 +131,7 @@ module _ (net : Net) where
   pub enough-own : (m : List ℕ) (t : ℕ) → t < net .transitions → enoughIn (transitionAt net t .take) 0 m (net .places) ≡ enabled net (marked m) t
   enough-own m t l = enough-row (transitionAt net t .take) 0 m t l (λ p b. ap (λ (i : ℕ). getD (transitionAt net t .take) i 0) (zero-add p))
 
-module _ (net : Net) (rows : Rows) (held : HoldsWithin rows (net .table) (net .transitions) (net .places)) where
+module _ (net : Net) (rows : Rows) (held : Holds rows (net .table) (net .transitions) (net .places)) where
   pub enough-same : (m : List ℕ) (t : ℕ) → t < net .transitions → enoughIn (rows .take) (16 * t) m (net .places) ≡ enabled net (marked net m) t
   enough-same m t l = enough-row net (rows .take) (16 * t) m t l (λ p h. held .taken t p l h)
 
@@ -142,50 +148,53 @@ module _ (net : Net) (rows : Rows) (held : HoldsWithin rows (net .table) (net .t
         all-same (keepsLimit (rows .take) (rows .give) (16 * t) m) (λ p. leb (getD (after net (marked net m) t) p 0) 255) (net .places)
         (λ p h. rw (later-same p h, entry (λ p. getD (marked net m) p 0 - takes net t p + gives net t p) (net .places) p h) refl)
 
-    module _ (moved : Moved) (moves : Moves (rows .take) (rows .give) (16 * t) m (net .places) moved) where
-      middle-marked : marked net (moved .middle) ≡ taken net (marked net m) t
-      unfolding taken
-      middle-marked = moves .middle ∙ tabled-same _ _ (net .places) left-same
+    -- the markings that a firing of t goes through
+    abbrev middle : List ℕ
+    middle = middleIn (rows .take) (16 * t) m (net .places)
 
-      later-marked : marked net (moved .later) ≡ after net (marked net m) t
-      unfolding after
-      later-marked = moves .later ∙ tabled-same _ _ (net .places) later-same
+    abbrev later : List ℕ
+    later = laterIn (rows .take) (rows .give) (16 * t) m (net .places)
 
-      restart-same : (memory : Memory) (u : ℕ) → u < net .transitions
-          → restartIn (rows .take) m (moved .middle) (moved .later) (net .places) memory t u ≡ ruleOf net memory (marked net m) t u
-      unfolding restartIn intermediate atomic
-      restart-same Intermediate u h =
-          rw (enough-same (moved .later) u h, enough-same (moved .middle) u h, later-marked, middle-marked) refl
-      restart-same Atomic u h = rw (enough-same (moved .later) u h, enough-same m u h, later-marked) refl
+    middle-marked : marked net middle ≡ taken net (marked net m) t
+    unfolding taken
+    middle-marked = first-whole (net .places) 0 middle (length-tabled _ 0 (net .places)) ∙ tabled-same _ _ (net .places) left-same
+
+    later-is : later ≡ after net (marked net m) t
+    unfolding after
+    later-is = tabled-same _ _ (net .places) later-same
+
+    later-marked : marked net later ≡ after net (marked net m) t
+    later-marked = first-whole (net .places) 0 later (length-tabled _ 0 (net .places)) ∙ later-is
+
+    restart-same : (memory : Memory) (u : ℕ) → u < net .transitions
+        → restartIn (rows .take) m middle later (net .places) memory t u ≡ ruleOf net memory (marked net m) t u
+    unfolding restartIn intermediate atomic
+    restart-same Intermediate u h = rw (enough-same later u h, enough-same middle u h, later-marked, middle-marked) refl
+    restart-same Atomic u h = rw (enough-same later u h, enough-same m u h, later-marked) refl
 
   -- the judgement and the firing
   module _ (st : State) (t : ℕ) (l : t < net .transitions) where
-    pub judged-same : (D n : ℕ) → judgedIn (rows .take) (rows .give) (transitionAt net t) st (net .places) D t n ≡ judged net D (standing (net .places) (net .transitions) st) t n
+    pub judged-same : (D n : ℕ) → judgedIn (rows .take) (rows .give) (transitionAt net t) (st .marking) (st .now - getD (st .since) t 0) (net .places) D t n
+        ≡ judged net D (standing (net .places) (net .transitions) st) t n
     unfolding judgedIn judged inInterval clockOf
     judged-same D n = rw (enough-same (st .marking) t l, limit-same (st .marking) t l, getD-first (net .transitions) 0 (st .since) t l) refl
 
-    clock-same : (memory : Memory) (moved : Moved) → Moves (rows .take) (rows .give) (16 * t) (st .marking) (net .places) moved → (u : ℕ) → u < net .transitions
-        → cond (restartIn (rows .take) (st .marking) (moved .middle) (moved .later) (net .places) memory t u) (st .now) (getD (st .since) u 0)
-        ≡ cond (ruleOf net memory (marked net (st .marking)) t u) (st .now) (getD (firstOf (net .transitions) 0 (st .since)) u 0)
-    clock-same memory moved moves u h = rw (restart-same (st .marking) t l moved moves memory u h, getD-first (net .transitions) 0 (st .since) u h) refl
-
-    pub fired-same : (memory : Memory) (r : State) → FiredIn (rows .take) (rows .give) st (net .places) (net .transitions) memory t r
+    pub fired-same : (memory : Memory) (r : State) → net .transitions ≤ 32 → FiredIn (rows .take) (rows .give) st (net .places) memory t r
         → standing (net .places) (net .transitions) r ≡ fired net (ruleOf net memory) (standing (net .places) (net .transitions) st) t
     unfolding fired
-    fired-same memory r f =
+    fired-same memory r few f =
         rw (
-          f .marking ∙ later-marked (st .marking) t l (f .moved) (f .moves),
-          f .since ∙ tabled-same _ _ (net .transitions) (clock-same memory (f .moved) (f .moves)),
+          f .marking ∙ later-is (st .marking) t l,
+          first-tabled (λ u. cond (ruleOf net memory (marked net (st .marking)) t u) (st .now) (getD (firstOf (net .transitions) 0 (st .since)) u 0)) (net .transitions) (r .since)
+              (λ u h. f .since u (omega arith) ∙ rw (restart-same (st .marking) t l memory u h, getD-first (net .transitions) 0 (st .since) u h) refl),
           f .now,
         ) refl
 
 -- what a passed judgement says of the tokens
-module _ (take give : List ℕ) (tr : Transition) (st : State) (places D t n : ℕ) where
-  pub passed-tokens : judgedIn take give tr st places D t n ≡ Passed
-      → (enoughIn take (16 * t) (st .marking) places ≡ true) × (limitIn take give (16 * t) (st .marking) places ≡ true)
+module _ (take give : List ℕ) (tr : Transition) (m : List ℕ) (clock places D t n : ℕ) where
+  pub passed-tokens : judgedIn take give tr m clock places D t n ≡ Passed → (enoughIn take (16 * t) m places ≡ true) × (limitIn take give (16 * t) m places ≡ true)
   unfolding judgedIn
-  passed-tokens =
-      go (enoughIn take (16 * t) (st .marking) places) (timely tr D (st .now - getD (st .since) t 0)) (limitIn take give (16 * t) (st .marking) places)
+  passed-tokens = go (enoughIn take (16 * t) m places) (timely tr D clock) (limitIn take give (16 * t) m places)
     where
       go : (a b c : Bool) → cond a (cond b (cond c Passed (Refused (TooManyTokens n))) (Refused (OutsideInterval n))) (Refused (NotEnabled n)) ≡ Passed
           → (a ≡ true) × (c ≡ true)

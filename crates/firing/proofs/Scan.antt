@@ -1,11 +1,11 @@
--- What the loops over places and transitions keep: a scan that is left at the first failure has found no failure so far, and of an
--- array that is filled slot by slot the slots passed hold the new values and the others the old ones.
+-- What the loops over places and transitions keep: a scan that is left at the first failure has found no failure so far, a scan of all has the answer of the
+-- numbers passed, and of an array that is filled slot by slot the slots passed hold the new values and the others the old ones.
 use Prim.Native.Nat.{ℕ, _+_, _-_, _≤_, _<_}
 use native.Mathlib.Nat.{not-suc-le-zero, eq-or-lt-of-le, le-of-suc-le-suc}
 use native.Mathlib.Numerals.{add-one}
 use native.Mathlib.Omega.{arith}
-use mathlib.Core.Path.{_≡_, refl, sym, ap, _∙_}
-use mathlib.Core.Bool.{Bool, true, false, cond}
+use mathlib.Core.Path.{_≡_, refl, sym, _∙_}
+use mathlib.Core.Bool.{Bool, true, false}
 use mathlib.Core.Logic.{⊎-elim}
 use mathlib.Core.List.{List}
 use lib.Dec.{leb}
@@ -15,7 +15,7 @@ use borrow.Author.Tests.{leb-true}
 use Rattle.laws.specs.All.{allBelow, all-more, all-fails, all-last, all-at}
 use Rattle.laws.specs.Slots.{firstOf}
 use Rattle.laws.specs.Tabled.{tabled, first-tabled}
-use Rattle.firing.specs.Rows.{enoughIn, limitIn}
+use Rattle.firing.specs.Rows.{Stored, enoughIn, limitIn}
 
 -- ---- a scan
 pub record Scanned (f : ℕ → Bool) (n : ℕ) (ok : Bool) (p : ℕ) : Type 0 where
@@ -113,13 +113,26 @@ module _ {A : Type 0} {d : A} {old : List A} {f : ℕ → A} {n : ℕ} {new : Li
 pub fill-done : {f : ℕ → ℕ} {n : ℕ} {old new : List ℕ} → Filled 0 old f n new → (m : ℕ) → m ≤ n → firstOf m 0 new ≡ tabled f 0 m
 fill-done {f} {new = new} s m b = first-tabled f m new (λ k l. s .passed k (omega arith))
 
--- ---- an array in which some slots get a new value
-module _ (old : List ℕ) (renews : ℕ → Bool) (value : ℕ) where
-  abbrev pub renewed : ℕ → ℕ
-  renewed k = cond (renews k) value (getD old k 0)
+-- ---- slots of an array filled in the order of their numbers
+pub stored-start : {A : Type 0} (d : A) (old : List A) (at : ℕ → ℕ) (f : ℕ → A) → Stored d old at f 0 old
+stored-start d old at f = record { long = refl; stored = λ k l. absurd (not-suc-le-zero l); kept = λ i h. refl }
 
-  pub renew-one : (n : ℕ) (new next : List ℕ) → Filled 0 old renewed n new → renews n ≡ true → n < length old → next ≡ set new n value → Filled 0 old renewed (n + 1) next
-  renew-one n new next s e l q = rw q (fill-store s value l (sym (ap (λ (b : Bool). cond b value (getD old n 0)) e)))
+module _ {A : Type 0} {d : A} {old : List A} {at : ℕ → ℕ} {f : ℕ → A} {n : ℕ} {new : List A} (s : Stored d old at f n new) (apart : (k : ℕ) → k < n → at k ≡ at n → ⊥) where
+  one-more : (next : List A) → length next ≡ length new → ((i : ℕ) → (i ≡ at n → ⊥) → getD next i d ≡ getD new i d) → getD next (at n) d ≡ f n → Stored d old at f (n + 1) next
+  one-more next same others e =
+      record {
+        long = same ∙ s .long;
+        stored = λ k l.
+            ⊎-elim
+            (λ (q : k ≡ n). rw q e)
+            (λ (lt : k < n). others (at k) (apart k lt) ∙ s .stored k lt)
+            (eq-or-lt-of-le (le-of-suc-le-suc (rw add-one at l)));
+        kept = λ i h. others i (h n (omega arith)) ∙ s .kept i (λ k l. h k (omega arith));
+      }
 
-  pub renew-none : (n : ℕ) (new next : List ℕ) → Filled 0 old renewed n new → renews n ≡ false → next ≡ new → Filled 0 old renewed (n + 1) next
-  renew-none n new next s e q = rw q (fill-keep s (sym (ap (λ (b : Bool). cond b value (getD old n 0)) e)))
+  pub stored-more : (v : A) → at n < length old → v ≡ f n → Stored d old at f (n + 1) (set new (at n) v)
+  stored-more v l e =
+      one-more (set new (at n) v) (length-set new (at n) v) (λ i h. getD-set-other new (at n) i v d h) (getD-set-same new (at n) v d (omega (arith, s .long)) ∙ e)
+
+  pub stored-same : getD old (at n) d ≡ f n → Stored d old at f (n + 1) new
+  stored-same e = one-more new refl (λ i h. refl) (s .kept (at n) (λ k l q. apart k l (sym q)) ∙ e)

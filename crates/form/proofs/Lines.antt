@@ -5,10 +5,12 @@ use native.Mathlib.Omega.{arith}
 use mathlib.Core.Path.{_≡_, refl, sym, ap, _∙_}
 use mathlib.Core.Bool.{true, _&&_, and-eq-true-iff}
 use mathlib.Core.List.{List, [], _∷_, _++_}
-use lib.ListN.{length, take, drop}
+use lib.ListN.{length, getD, take, drop}
 use lib.Dec.{leb, ltb, eqb}
 use borrow.Author.Tests.{leb-true, ltb-true}
-use Rattle.laws.specs.Slots.{firstOf, padTo, length-first, first-pad}
+use Rattle.laws.specs.Each.{Each}
+use Rattle.laws.specs.EachAt.{each-at}
+use Rattle.laws.specs.Slots.{firstOf, padTo, length-first, getD-first, first-pad}
 use Rattle.laws.specs.TwoTexts.{first-there, second-there, both-there, both-long}
 use Rattle.reply.specs.declared.Refusal.the-variants.{OutOfRange, NoSuchTransition}
 use Rattle.reply.specs.declared.Checked.{Checked}
@@ -132,7 +134,22 @@ items-prefix (suc j) s k at line h =
     let l = field-near n at next last s (formed-value line (fieldAt s at last) e) in
     rw (items-prefix j s k next line (omega (arith, l .0))) refl))
 
+ranges-each : (low high : ℕ) (ns : List ℕ) → allRanged low high ns ≡ true → Each (λ (n : ℕ). (low ≤ n) × (n ≤ high)) ns
+unfolding allRanged
+ranges-each low high [] e = tt
+ranges-each low high (n ∷ ns) e =
+    let q = and-eq-true-iff (leb low n && leb n high) (allRanged low high ns) .0 e in
+    let r = and-eq-true-iff (leb low n) (leb n high) .0 (q .0) in
+    ((leb-true low n (r .0), leb-true n high (r .1)), ranges-each low high ns (q .1))
+
 module _ (k size low high : ℕ) where
+  -- each number of a list that passes is within the range
+  pub items-within : (ns : List ℕ) (line : ℕ) → items k size low high .check ns line ≡ Passed → (p : ℕ) → p < k → (low ≤ getD ns p 0) × (getD ns p 0 ≤ high)
+  items-within ns line e p l =
+      let m = firstOf k 0 ns in
+      let each = ranges-each low high m (test-passed (allRanged low high m) (OutOfRange line) e) in
+      rw getD-first at (each-at (λ (n : ℕ). (low ≤ n) × (n ≤ high)) 0 m each p (omega (arith, length-first k 0 ns)))
+
   items-was : (ns s : List ℕ) (at next line : ℕ) → ItemsThere k ns s at next → itemsRanged low high ns line ≡ Passed → WasRead (items k size low high) (padTo size 0 ns) s at next line
   items-was ns s at next line w p =
       let e = first-pad k size 0 ns (w .count) in

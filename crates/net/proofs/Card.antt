@@ -22,11 +22,11 @@ use Rattle.text.specs.Decimal.{field}
 use Rattle.text.proofs.KeyLaws.{begins-text, begins-split, begins-take}
 use Rattle.text.proofs.NumberLaws.{field-text, field-split, field-near, field-take}
 use Rattle.form.specs.Form.{found, andThen, judged, keyed, chain}
-use Rattle.form.specs.Line.{formed, ranged, number, items}
+use Rattle.form.specs.Line.{formed, ranged, number, itemsRanged, items}
 use Rattle.form.specs.Inverse.{WasRead, Inverse, Settled, Reaches}
 use Rattle.form.proofs.Found.{found-place, then-found, also-first, also-second, checks-each, judged-passed, judged-found}
 use Rattle.form.proofs.Combine.{was-same, reaches-more, keyed-inverse, keyed-settled, keyed-reaches, chain-inverse, chain-settled, chain-reaches, held-inverse, held-settled, held-reaches, times-inverse, times-settled, times-reaches}
-use Rattle.form.proofs.Lines.{formed-value, ranged-within, ranged-small, items-inverse, items-settled, items-reaches, ranged-inverse, ranged-read, ranged-settled, number-line-reaches, word-was}
+use Rattle.form.proofs.Lines.{formed-value, ranged-within, ranged-small, items-within, items-inverse, items-settled, items-reaches, ranged-inverse, ranged-read, ranged-settled, number-line-reaches, word-was}
 use Rattle.form.proofs.Card.{read-back, written-again, passes-exactly, text-short}
 use Rattle.net.specs.declared.Latest.{Latest}
 use Rattle.net.specs.declared.Latest.the-variants.{Unbounded, Ticks}
@@ -263,16 +263,28 @@ net-start n e p h =
     (also-first (starts (n .places) .check (n .start) 3) _ behind) in
     rw getD-first at (each-at (λ (x : ℕ). x ≤ 255) 0 listed each p (omega (arith, length-first (n .places) 0 (n .start))))
 
--- and the lower bounds of its transitions
-pub net-earliest : (n : Net) → netCard .check n 1 ≡ Passed → (t : ℕ) → t < n .transitions → getD (n .table) t noTransition .earliest ≤ 1000
-net-earliest n p t h =
-    let listed = firstOf (n .transitions) noTransition (n .table) in
-    let behind = also-second (ranged 1 32 (n .transitions) 2) _ (also-second (ranged 1 16 (n .places) 1) _ p) in
-    let each =
-    checks-each (transition (n .places)) (λ (x : Transition). x .earliest ≤ 1000)
-    (λ x line e. ranged-within 0 1000 (x .earliest) line (also-first (ranged 0 1000 (x .earliest) line) _ e) .1)
-    listed _ (also-second (starts (n .places) .check (n .start) 3) _ behind) in
-    rw getD-first at (each-at (λ (x : Transition). x .earliest ≤ 1000) noTransition listed each t (omega (arith, length-first (n .transitions) noTransition (n .table))))
+-- and its transitions: each passes a check of its own
+module _ (n : Net) (p : netCard .check n 1 ≡ Passed) (t : ℕ) (h : t < n .transitions) where
+  of-transition : (P : Transition → Type 0) → ((x : Transition) (line : ℕ) → transition (n .places) .check x line ≡ Passed → P x) → P (getD (n .table) t noTransition)
+  of-transition P f =
+      let listed = firstOf (n .transitions) noTransition (n .table) in
+      let behind = also-second (ranged 1 32 (n .transitions) 2) _ (also-second (ranged 1 16 (n .places) 1) _ p) in
+      let each = checks-each (transition (n .places)) P f listed _ (also-second (starts (n .places) .check (n .start) 3) _ behind) in
+      rw getD-first at (each-at P noTransition listed each t (omega (arith, length-first (n .transitions) noTransition (n .table))))
+
+  pub net-earliest : getD (n .table) t noTransition .earliest ≤ 1000
+  net-earliest =
+      of-transition (λ (x : Transition). x .earliest ≤ 1000)
+      (λ x line e. ranged-within 0 1000 (x .earliest) line (also-first (ranged 0 1000 (x .earliest) line) _ e) .1)
+
+  pub net-weights : (k : ℕ) → k < n .places → (getD (getD (n .table) t noTransition .take) k 0 ≤ 255) × (getD (getD (n .table) t noTransition .give) k 0 ≤ 255)
+  net-weights k b =
+      of-transition (λ (x : Transition). (getD (x .take) k 0 ≤ 255) × (getD (x .give) k 0 ≤ 255))
+      (λ x line e.
+      let behind = also-second (latestChecked (x .earliest) (x .latest) (line + 1)) _ (also-second (ranged 0 1000 (x .earliest) line) _ e) in
+      let taken = itemsRanged 0 255 (firstOf (n .places) 0 (x .take)) (line + 1 + 1) in
+      let given = itemsRanged 0 255 (firstOf (n .places) 0 (x .give)) (line + 1 + 1 + 1) in
+      (items-within (n .places) 16 0 255 (x .take) _ (also-first taken given behind) k b .1, items-within (n .places) 16 0 255 (x .give) _ (also-second taken given behind) k b .1))
 
 -- what is no part of a net lies in its arrays alone
 pub net-clean : (n : Net) → (netCard .clean n .places ≡ n .places) × (netCard .clean n .transitions ≡ n .transitions)

@@ -1,40 +1,138 @@
--- The markings that the tokens go through are those of `move_tokens`, and the clocks are those of `restarted`: past the places no row asks for a token.
+-- The tokens move as the memory word says (`MovedBy`); the transitions marked, and t, restart where their rows are covered after the firing.
 use native.Mathlib.Omega.{arith}
-use mathlib.Core.Path.{_≡_, refl, _∙_}
-use lib.ListN.{length}
+use mathlib.Core.Path.{_≡_, refl, sym, _∙_}
+use mathlib.Core.Logic.{⊎-elim}
+use lib.ListN.{length, length-set}
 use borrow.Author.Needs.{needs}
-use Rattle.firing.proofs.RowLaws.{since-cut}
+use Rattle.firing.proofs.Restarts.{MovedBy, moved-middle, moved-before, since-set, since-kept}
 use Rattle.firing.proofs.fire.Statement.{statement}
 use Rattle.firing.proofs.fire.Tie as tie
 
-marking-long : (s : tie.Start) → length (s .args .st .marking) ≡ 16
-marking-long s = search needs
+moved : (w : tie.At-match-came) →
+    let a = w .before .before .before .before .before .before .args in
+    MovedBy (a .take .now) (a .give .now) (a .marking .now) (a .places) (a .t) (a .memory) (w .match .looked) (w .match .marking)
+moved w =
+    let a = w .before .before .before .before .before .before .args in
+    ⊎-elim
+    (λ v.
+    rw (v .8, v .9)
+    (moved-middle (a .take .now) (a .give .now) (a .marking .now) (a .places) (a .t) (a .memory) _ _ (v .4 .kept .1 .1 .1 .1 .0) (v .4 .kept .1 .1 .1 .0) (v .4 .ensures .1)
+    (v .1 .given .1) (v .4 .ensures .0)))
+    (λ v.
+    rw (v .8, v .9)
+    (moved-before (a .take .now) (a .give .now) (a .marking .now) (a .places) (a .t) (a .memory) _ _ (v .4 .kept .1 .1 .1 .1 .0) (v .4 .kept .1 .1 .1 .0) (v .4 .ensures .1)
+    (v .1 .given .1) (v .4 .ensures .0)))
+    (w .match .came)
 
-mul-move-tokens : tie.Need-mul-move-tokens
-mul-move-tokens c = search needs
+enum-told : tie.Need-enum-told
+enum-told c = search needs
 
-slice-aggregate-move-tokens : tie.Need-slice-aggregate-move-tokens
-slice-aggregate-move-tokens c = search needs
+mul-move-by-middle : tie.Need-mul-move-by-middle
+mul-move-by-middle c = search needs
 
-move-tokens-requires : tie.Need-move-tokens-requires
-move-tokens-requires c κs =
-    let s = c .before .before .before .before in
-    let long : length (s .args .st .marking) ≡ 16 = marking-long s in
-    ((omega arith, omega arith, omega arith, omega arith), s .pre .1 .0)
+slice-aggregate-move-by-middle : tie.Need-slice-aggregate-move-by-middle
+slice-aggregate-move-by-middle c = search needs
 
-restarted-requires : tie.Need-restarted-requires
-restarted-requires c κs = search needs
+move-by-middle-requires : tie.Need-move-by-middle-requires
+move-by-middle-requires c κs = search needs
+
+enum-told-2 : tie.Need-enum-told-2
+enum-told-2 c = search needs
+
+mul-move-from-before : tie.Need-mul-move-from-before
+mul-move-from-before c = search needs
+
+slice-aggregate-move-from-before : tie.Need-slice-aggregate-move-from-before
+slice-aggregate-move-from-before c = search needs
+
+move-from-before-requires : tie.Need-move-from-before-requires
+move-from-before-requires c κs = search needs
+
+mul-mark-short : tie.Need-mul-mark-short
+mul-mark-short c = search needs
+
+slice-aggregate-mark-short : tie.Need-slice-aggregate-mark-short
+slice-aggregate-mark-short c = sym (moved (c .before) .wide)
+
+slice-aggregate-mark-short-2 : tie.Need-slice-aggregate-mark-short-2
+slice-aggregate-mark-short-2 c = search needs
+
+mark-short-requires : tie.Need-mark-short-requires
+mark-short-requires c κs =
+    let w = c .before .before in
+    let s = w .before .before .before .before .before .before in
+    (omega (arith, s .pre .0), omega (arith, s .pre .0), omega (arith, s .pre .0, moved w .wide), omega arith)
+
+slice-aggregate-restart-short : tie.Need-slice-aggregate-restart-short
+slice-aggregate-restart-short c = search needs
+
+restart-short-requires : tie.Need-restart-short-requires
+restart-short-requires c κs =
+    let k = c .before .before .before .before in
+    let w = k .before .before .before in
+    let s = w .before .before .before .before .before .before in
+    (s .pre .0 .2, omega (arith, s .pre .0, moved w .long), omega (arith, k .mark-short .kept .1 .1 .1 .1 .1 .0), omega (arith, s .pre .0))
+
+mul-covered : tie.Need-mul-covered
+mul-covered c = search needs
+
+covered-requires : tie.Need-covered-requires
+covered-requires c κs =
+    let w = c .before .before .before .before .before .before .before .before .before .before .before in
+    let s = w .before .before .before .before .before .before in
+    (omega (arith, s .pre .0), omega (arith, s .pre .0, moved w .long))
+
+mul-since : tie.Need-mul-since
+mul-since c = search needs
+
+slice-write-since : tie.Need-slice-write-since
+slice-write-since c = search needs
+
+same-length : tie.Need-same-length
+same-length c = moved (c .before .before .before .before .before .before .before .before .before .before .before .before .before) .long
+
+same-length-2 : tie.Need-same-length-2
+same-length-2 c = search needs
 
 returns : tie.Need-returns
 returns c =
-    let r = c .before in
-    let m = r .before in
-    let s = m .before .before .before .before .before in
+    let r = c .before .before .before .before .before in
+    let k = r .before .before .before .before .before in
+    let w = k .before .before .before in
+    let s = w .before .before .before .before .before .before in
+    let a = s .args in
+    let long : length (r .restart-short .last .1 .1 .1 .0) ≡ length (a .since .now) = r .restart-short .kept .1 .1 .1 .0 in
     record {
-      moved = m .move-tokens .result;
-      moves = m .move-tokens .ensures;
-      marking = refl;
-      since = r .restarted .ensures ∙ since-cut (s .args .take .now) (s .args .transitions) (s .args .places) (s .pre .0 .0) (s .pre .1 .1) (s .args .st) (m .move-tokens .result) (s .args .memory) (s .args .t);
+      long = (moved w .long, length-set (r .restart-short .last .1 .1 .1 .0) (a .t) (a .instant) ∙ long);
+      marking = moved w .has;
+      since =
+          since-set (a .take .now) (a .give .now) (a .column .now) (a .marking .now) (a .places) (a .t) (a .memory) (s .pre .0 .0) (s .pre .0 .1) (s .pre .1 .1 .0) (s .pre .1 .1 .1)
+          (w .match .looked) (w .match .marking) (moved w) (k .mark-short .last .1 .1 .1 .1 .1 .0) (a .instant) (a .since .now) (r .restart-short .last .1 .1 .1 .0)
+          (k .mark-short .ensures) (r .restart-short .ensures) (omega (arith, s .pre .0)) (sym (c .before .covered .ensures) ∙ c .if1 .taken);
+      now = refl;
+    }
+
+same-length-3 : tie.Need-same-length-3
+same-length-3 c = moved (c .before .before .before .before .before .before .before .before .before .before .before .before .before) .long
+
+same-length-4 : tie.Need-same-length-4
+same-length-4 c = search needs
+
+returns-2 : tie.Need-returns-2
+returns-2 c =
+    let r = c .before .before .before .before .before in
+    let k = r .before .before .before .before .before in
+    let w = k .before .before .before in
+    let s = w .before .before .before .before .before .before in
+    let a = s .args in
+    let long : length (r .restart-short .last .1 .1 .1 .0) ≡ length (a .since .now) = r .restart-short .kept .1 .1 .1 .0 in
+    record {
+      long = (moved w .long, long);
+      marking = moved w .has;
+      since =
+          since-kept (a .take .now) (a .give .now) (a .column .now) (a .marking .now) (a .places) (a .t) (a .memory) (s .pre .0 .0) (s .pre .0 .1) (s .pre .1 .1 .0) (s .pre .1 .1 .1)
+          (w .match .looked) (w .match .marking) (moved w) (k .mark-short .last .1 .1 .1 .1 .1 .0) (a .instant) (a .since .now) (r .restart-short .last .1 .1 .1 .0)
+          (k .mark-short .ensures) (r .restart-short .ensures) (sym (c .before .covered .ensures) ∙ c .if1 .left);
       now = refl;
     }
 
@@ -42,8 +140,27 @@ pub fire-spec : {M : Type 1} → statement M
 fire-spec =
     tie.close
     (tie.spec
-    mul-move-tokens
-    slice-aggregate-move-tokens
-    move-tokens-requires
-    restarted-requires
-    returns)
+    enum-told
+    mul-move-by-middle
+    slice-aggregate-move-by-middle
+    move-by-middle-requires
+    enum-told-2
+    mul-move-from-before
+    slice-aggregate-move-from-before
+    move-from-before-requires
+    mul-mark-short
+    slice-aggregate-mark-short
+    slice-aggregate-mark-short-2
+    mark-short-requires
+    slice-aggregate-restart-short
+    restart-short-requires
+    mul-covered
+    covered-requires
+    mul-since
+    slice-write-since
+    same-length
+    same-length-2
+    returns
+    same-length-3
+    same-length-4
+    returns-2)

@@ -1,8 +1,8 @@
 -- The loop keeps the state of the replay (`Playing`); the first refusal answers for all, and so does the end.
 use Prim.Native.Nat.{_≤_, _-_, _*_}
 use native.Mathlib.Omega.{arith}
-use mathlib.Core.Path.{_≡_, sym, _∙_}
-use lib.ListN.{length, getD}
+use mathlib.Core.Path.{_≡_, refl, sym, _∙_}
+use lib.ListN.{length, getD, replicate}
 use borrow.Author.Needs.{needs}
 use Rattle.run.specs.Run.{noFiring}
 use Rattle.firing.proofs.RowLaws.{passed-tokens}
@@ -11,32 +11,35 @@ use Rattle.firing.proofs.play_run.Statement.{statement}
 use Rattle.firing.proofs.play_run.Tie as tie
 
 abbrev Inv-loop : tie.InvT-loop
-Inv-loop net run places transitions count memory denominator take give st₀ i₀ st i = Playing net run st i
+Inv-loop net run places transitions count memory denominator take give column marking₀ since₀ now₀ i₀ marking since now i =
+    Playing net run (record { marking = marking; since = since; now = now }) i
 
 abbrev μ-loop : tie.MeasureT-loop
-μ-loop net run places transitions count memory denominator take give st₀ i₀ st i = count - i
+μ-loop net run places transitions count memory denominator take give column marking₀ since₀ now₀ i₀ marking since now i =
+    count - i
 
-rows-long : (w : tie.After-rows-within Inv-loop μ-loop) → (length (w .rows-within .result .take) ≡ 512) × (length (w .rows-within .result .give) ≡ 512)
+rows-long : (w : tie.After-rows-of Inv-loop μ-loop) →
+    (length (w .rows-of .result .take) ≡ 512) × (length (w .rows-of .result .give) ≡ 512) × (length (w .rows-of .result .column) ≡ 512)
 rows-long w = search needs
 
-wait-short : (k : tie.After-struct-known2 Inv-loop μ-loop) →
-    getD (k .before .before .before .before .before .before .before .before .before .before .before .args .t2 .firings) (k .before .before .before .before .loop .i) noFiring .wait ≤ 4294967295
-wait-short k = omega arith
+wait-short : (q : tie.After-struct-known2 Inv-loop μ-loop) →
+    let b = q .before .before .before .before .before in
+    getD (b .before .before .before .before .before .before .before .args .t2 .firings) (b .loop .i) noFiring .wait ≤ 4294967295
+wait-short q = omega arith
 
-not-late : (b : tie.At-loop Inv-loop μ-loop) → b .loop .st .now ≤ 64 * 4294967295
+not-late : (b : tie.At-loop Inv-loop μ-loop) → b .loop .now ≤ 64 * 4294967295
 not-late b = omega (arith, b .loop .inv .soon, b .loop .inv .within, b .before .before .before .before .before .before .before .pre)
 
-rows-within-requires : tie.Need-rows-within-requires Inv-loop μ-loop
-rows-within-requires c κs = search needs
+rows-of-requires : tie.Need-rows-of-requires Inv-loop μ-loop
+rows-of-requires c κs = search needs
 
-start-requires : tie.Need-start-requires Inv-loop μ-loop
-start-requires c κs = search needs
+narrowed-requires : tie.Need-narrowed-requires Inv-loop μ-loop
+narrowed-requires c κs = search needs
 
 loop-holds : tie.Need-loop-holds Inv-loop μ-loop
 loop-holds c =
     let a = c .before .before .before .before .before .before .args in
-    let e = c .start .ensures in
-    playing-start (a .t1) (a .t2) (c .start .result) (e .0) (e .1) (e .2)
+    playing-start (a .t1) (a .t2) (record { marking = c .narrowed .result; since = replicate 32 0; now = 0 }) (c .narrowed .ensures) refl refl (search needs)
 
 mul-f : tie.Need-mul-f Inv-loop μ-loop
 mul-f c = search needs
@@ -47,21 +50,26 @@ element-copy-out-f c = search needs
 cast-t : tie.Need-cast-t Inv-loop μ-loop
 cast-t c = search needs
 
-cast-later : tie.Need-cast-later Inv-loop μ-loop
-cast-later c = search needs
+add-t31 : tie.Need-add-t31 Inv-loop μ-loop
+add-t31 c = search needs
 
-add-later : tie.Need-add-later Inv-loop μ-loop
-add-later c = search needs
-
-add-t28 : tie.Need-add-t28 Inv-loop μ-loop
-add-t28 c = search needs
+state-of-requires : tie.Need-state-of-requires Inv-loop μ-loop
+state-of-requires c κs = search needs
 
 returns : tie.Need-returns Inv-loop μ-loop
 returns c =
-    let l = c .before .before .before .before .before in
+    let e = c .before in
+    let l = e .before .before .before in
     let b = l .before in
     let a = b .before .before .before .before .before .before .before .args in
-    (playing-unlisted (a .t1) (a .t2) (b .loop .st) (b .loop .i) (b .loop .inv) (l .loop-test .taken) (c .if1 .taken), not-late b)
+    rw (c .state-of .ensures)
+    (playing-unlisted (a .t1) (a .t2) (record { marking = b .loop .marking; since = b .loop .since; now = b .loop .now }) (b .loop .i) (b .loop .inv) (l .loop-test .taken) (e .if1 .taken), not-late b)
+
+cast-instant : tie.Need-cast-instant Inv-loop μ-loop
+cast-instant c = search needs
+
+add-instant : tie.Need-add-instant Inv-loop μ-loop
+add-instant c = search needs
 
 mul-tr : tie.Need-mul-tr Inv-loop μ-loop
 mul-tr c = search needs
@@ -75,21 +83,32 @@ slice-aggregate-judge c = search needs
 slice-aggregate-judge-2 : tie.Need-slice-aggregate-judge-2 Inv-loop μ-loop
 slice-aggregate-judge-2 c = search needs
 
+slice-aggregate-judge-3 : tie.Need-slice-aggregate-judge-3 Inv-loop μ-loop
+slice-aggregate-judge-3 c = search needs
+
+mul-judge : tie.Need-mul-judge Inv-loop μ-loop
+mul-judge c = search needs
+
+array-read-judge : tie.Need-array-read-judge Inv-loop μ-loop
+array-read-judge c = search needs
+
+sub-judge : tie.Need-sub-judge Inv-loop μ-loop
+sub-judge c =
+    let e = c .before .before .before .before .before in
+    let b = e .before .before .before .before in
+    let s = b .before .before .before .before .before .before .before in
+    clock-past (s .args .t1) (s .args .t2) (record { marking = b .loop .marking; since = b .loop .since; now = b .loop .now }) (b .loop .i) (b .loop .inv) (e .if1 .left)
+
 add-judge : tie.Need-add-judge Inv-loop μ-loop
 add-judge c = search needs
 
 judge-requires : tie.Need-judge-requires Inv-loop μ-loop
 judge-requires c κs =
-    let e = c .before .before .before in
-    let b = e .before .before .before .before .before .before in
-    let w = b .before .before .before .before in
-    let s = w .before .before .before in (
-      s .pre .0,
-      omega (arith, e .if1 .left, s .pre),
-      clock-past (s .args .t1) (s .args .t2) (b .loop .st) (b .loop .i) (b .loop .inv) (e .if1 .left),
-      rows-long w .0,
-      rows-long w .1,
-    )
+    let e = c .before .before .before .before .before in
+    let b = e .before .before .before .before in
+    let w = b .before .before .before .before .before in
+    let s = w .before .before in
+    (s .pre .0, omega (arith, e .if1 .left, s .pre), rows-long w .0, rows-long w .1, b .loop .inv .long .0, w .rows-of .ensures .blank)
 
 enum-told : tie.Need-enum-told Inv-loop μ-loop
 enum-told c = search needs
@@ -97,39 +116,57 @@ enum-told c = search needs
 enum-told-2 : tie.Need-enum-told-2 Inv-loop μ-loop
 enum-told-2 c = search needs
 
+state-of-requires-2 : tie.Need-state-of-requires-2 Inv-loop μ-loop
+state-of-requires-2 c κs = search needs
+
 returns-2 : tie.Need-returns-2 Inv-loop μ-loop
 returns-2 c =
-    let j = c .before .before in
-    let e = j .before .before .before .before in
-    let l = e .before .before .before .before .before in
+    let j = c .before .before .before in
+    let e = j .before .before .before .before .before .before in
+    let l = e .before .before .before in
     let b = l .before in
-    let w = b .before .before .before .before in
-    let s = w .before .before .before in (
-      playing-refused (s .args .t1) (s .args .t2) (b .loop .st) (b .loop .i) (b .loop .inv) (w .rows-within .result) (w .rows-within .ensures) (l .loop-test .taken) (e .if1 .left)
-          (s .pre .1) _ (j .judge .result) (j .judge .ensures) _ (c .enum-told2 .given .1),
+    let w = b .before .before .before .before .before in
+    let s = w .before .before in
+    rw (c .state-of2 .ensures) (
+      playing-refused (s .args .t1) (s .args .t2) (record { marking = b .loop .marking; since = b .loop .since; now = b .loop .now }) (b .loop .i) (b .loop .inv) (w .rows-of .result) (w .rows-of .ensures) (l .loop-test .taken) (e .if1 .left) (s .pre .1) _
+          (j .judge .result) (j .judge .ensures) _ (c .before .enum-told2 .given .1),
       not-late b,
     )
 
 slice-aggregate-fire : tie.Need-slice-aggregate-fire Inv-loop μ-loop
-slice-aggregate-fire c = sym (rows-long (c .before .before .before .before .before .before .before .before .before .before .before .before .before .before .before .before .before) .0)
+slice-aggregate-fire c = search needs
 
 slice-aggregate-fire-2 : tie.Need-slice-aggregate-fire-2 Inv-loop μ-loop
-slice-aggregate-fire-2 c = sym (rows-long (c .before .before .before .before .before .before .before .before .before .before .before .before .before .before .before .before .before .before) .1)
+slice-aggregate-fire-2 c =
+    let e = c .before .before .before .before .before .before .before .before .before .before in
+    sym (rows-long (e .before .before .before .before .before .before .before .before .before) .1)
+
+slice-aggregate-fire-3 : tie.Need-slice-aggregate-fire-3 Inv-loop μ-loop
+slice-aggregate-fire-3 c =
+    let e = c .before .before .before .before .before .before .before .before .before .before .before in
+    sym (rows-long (e .before .before .before .before .before .before .before .before .before) .2)
+
+slice-aggregate-fire-4 : tie.Need-slice-aggregate-fire-4 Inv-loop μ-loop
+slice-aggregate-fire-4 c = search needs
+
+slice-aggregate-fire-5 : tie.Need-slice-aggregate-fire-5 Inv-loop μ-loop
+slice-aggregate-fire-5 c = search needs
 
 fire-requires : tie.Need-fire-requires Inv-loop μ-loop
 fire-requires c κs =
-    let p = c .before .before in
+    let p = c .before .before .before .before .before in
     let j = p .before .before in
-    let e = j .before .before .before .before in
-    let w = e .before .before .before .before .before .before .before .before .before .before in
-    let s = w .before .before .before in (
-      (s .pre .0, s .pre .1, omega (arith, e .if1 .left, s .pre), rows-long w .0, rows-long w .1),
-      (passed-tokens _ _ _ _ _ _ _ _ (sym (j .judge .ensures) ∙ p .enum-told .given .1), w .rows-within .ensures .blank),
+    let e = j .before .before .before .before .before .before in
+    let b = e .before .before .before .before in
+    let w = b .before .before .before .before .before in
+    let s = w .before .before in (
+      (s .pre .0, omega (arith, e .if1 .left, s .pre), rows-long w .0, rows-long w .1, rows-long w .2, b .loop .inv .long .0, b .loop .inv .long .1),
+      (passed-tokens _ _ _ _ _ _ _ _ _ (sym (j .judge .ensures) ∙ p .enum-told .given .1), (w .rows-of .ensures .blank, w .rows-of .ensures .columns)),
     )
 
 add-i : tie.Need-add-i Inv-loop μ-loop
 add-i c =
-    let l = c .before .before .before .before .before .before .before .before .before .before .before .before .before .before in
+    let l = c .before .before .before .before .before .before .before .before .before .before .before .before .before .before .before .before .before .before .before in
     omega (arith, l .loop-test .taken, l .before .before .before .before .before .before .before .before .pre)
 
 loop-less : tie.Need-loop-less Inv-loop μ-loop
@@ -137,22 +174,26 @@ loop-less c = search needs
 
 loop-again : tie.Need-loop-again Inv-loop μ-loop
 loop-again c =
-    let p = c .before .before .before in
+    let f = c .before .before in
+    let p = f .before .before .before .before .before .before in
     let j = p .before .before in
-    let e = j .before .before .before .before in
-    let k = e .before .before in
-    let l = k .before .before .before in
+    let q = j .before .before .before .before .before in
+    let e = q .before in
+    let l = e .before .before .before in
     let b = l .before in
-    let w = b .before .before .before .before in
-    let s = w .before .before .before in
-    playing-more (s .args .t1) (s .args .t2) (b .loop .st) (b .loop .i) (b .loop .inv) (w .rows-within .result) (w .rows-within .ensures) (l .loop-test .taken) (e .if1 .left)
-    (s .pre .1) _ (j .judge .result) (j .judge .ensures) (p .enum-told .given .1) (wait-short k) (c .fire .result) (c .fire .ensures)
+    let w = b .before .before .before .before .before in
+    let s = w .before .before in
+    playing-more (s .args .t1) (s .args .t2) (record { marking = b .loop .marking; since = b .loop .since; now = b .loop .now }) (b .loop .i) (b .loop .inv) (w .rows-of .result) (w .rows-of .ensures) (l .loop-test .taken) (e .if1 .left) (s .pre .1) _
+    (j .judge .result) (j .judge .ensures) (p .enum-told .given .1) (wait-short q) _ (f .fire .ensures)
+
+state-of-requires-3 : tie.Need-state-of-requires-3 Inv-loop μ-loop
+state-of-requires-3 c κs = search needs
 
 returns-3 : tie.Need-returns-3 Inv-loop μ-loop
 returns-3 c =
-    let b = c .before in
+    let b = c .before .before in
     let a = b .before .before .before .before .before .before .before .args in
-    (playing-done (a .t1) (a .t2) (b .loop .st) (b .loop .i) (b .loop .inv) (c .loop-test .left), not-late b)
+    rw (c .state-of3 .ensures) (playing-done (a .t1) (a .t2) (record { marking = b .loop .marking; since = b .loop .since; now = b .loop .now }) (b .loop .i) (b .loop .inv) (c .before .loop-test .left), not-late b)
 
 pub play-run-spec : {M : Type 1} → statement M
 play-run-spec =
@@ -160,29 +201,39 @@ play-run-spec =
     (tie.spec
     Inv-loop
     μ-loop
-    rows-within-requires
-    start-requires
+    rows-of-requires
+    narrowed-requires
     loop-holds
     mul-f
     element-copy-out-f
     cast-t
-    cast-later
-    add-later
-    add-t28
+    add-t31
+    state-of-requires
     returns
+    cast-instant
+    add-instant
     mul-tr
     element-copy-out-tr
     slice-aggregate-judge
     slice-aggregate-judge-2
+    slice-aggregate-judge-3
+    mul-judge
+    array-read-judge
+    sub-judge
     add-judge
     judge-requires
     enum-told
     enum-told-2
+    state-of-requires-2
     returns-2
     slice-aggregate-fire
     slice-aggregate-fire-2
+    slice-aggregate-fire-3
+    slice-aggregate-fire-4
+    slice-aggregate-fire-5
     fire-requires
     add-i
     loop-less
     loop-again
+    state-of-requires-3
     returns-3)

@@ -1,37 +1,35 @@
 -- The scan has found no short place so far (`Scanned`); the first short one answers for all, and so does the end.
 use Prim.Native.Nat.{_-_}
+use native.Mathlib.Nat.{zero-add}
 use mathlib.Core.Path.{sym}
 use borrow.Author.Tests.{le-leb, lt-leb}
 use borrow.Author.Needs.{needs}
 use Rattle.laws.specs.All.{all-fails}
 use Rattle.firing.specs.Rows.{enoughIn}
 use Rattle.firing.proofs.Scan.{Scanned, scan-start, scan-more, scan-done, hasEnough}
-use Rattle.firing.proofs.enough.Statement.{statement}
-use Rattle.firing.proofs.enough.Tie as tie
+use Rattle.firing.proofs.enough_for.Statement.{statement}
+use Rattle.firing.proofs.enough_for.Tie as tie
 
 abbrev Inv-places : tie.InvT-places
-Inv-places take row marking places ok₀ p₀ ok p = Scanned (hasEnough take row marking) places ok p
+Inv-places places take marking ok₀ p₀ ok p = Scanned (hasEnough take 0 marking) places ok p
 
 abbrev μ-places : tie.MeasureT-places
-μ-places take row marking places ok₀ p₀ ok p = places - p
+μ-places places take marking ok₀ p₀ ok p = places - p
 
 places-holds : tie.Need-places-holds Inv-places μ-places
-places-holds c = scan-start (hasEnough (c .args .take .now) (c .args .row) (c .args .marking .now)) (c .args .places)
+places-holds c = scan-start (hasEnough (c .args .t1) 0 (c .args .t2)) (c .args .places)
 
 mul-if1 : tie.Need-mul-if1 Inv-places μ-places
 mul-if1 c = search needs
 
-shared-slice-read-if1 : tie.Need-shared-slice-read-if1 Inv-places μ-places
-shared-slice-read-if1 c = search needs
-
-add-if1 : tie.Need-add-if1 Inv-places μ-places
-add-if1 c = search needs
+array-read-if1 : tie.Need-array-read-if1 Inv-places μ-places
+array-read-if1 c = search needs
 
 mul-if1-2 : tie.Need-mul-if1-2 Inv-places μ-places
 mul-if1-2 c = search needs
 
-shared-slice-read-if1-2 : tie.Need-shared-slice-read-if1-2 Inv-places μ-places
-shared-slice-read-if1-2 c = search needs
+array-read-if1-2 : tie.Need-array-read-if1-2 Inv-places μ-places
+array-read-if1-2 c = search needs
 
 add-p : tie.Need-add-p Inv-places μ-places
 add-p c = search needs
@@ -41,8 +39,8 @@ places-less c = search needs
 
 places-again : tie.Need-places-again Inv-places μ-places
 places-again c =
-    let b = c .before .before .before in
-    scan-more (b .before .places .inv) (b .places-test .taken) (le-leb _ _ (c .if1 .left))
+    let b = c .before in
+    scan-more (b .before .places .inv) (b .places-test .taken) (rw zero-add (le-leb _ _ (c .if1 .left)))
 
 returns : tie.Need-returns Inv-places μ-places
 unfolding enoughIn
@@ -51,22 +49,21 @@ returns c = scan-done (c .before .places .inv) (c .places-test .left)
 returns-2 : tie.Need-returns-2 Inv-places μ-places
 unfolding enoughIn
 returns-2 c =
-    let b = c .before .before .before in
+    let b = c .before in
     let a = b .before .before .args in
-    sym (all-fails (hasEnough (a .take .now) (a .row) (a .marking .now)) (b .before .places .p) (a .places) (lt-leb _ _ (c .if1 .taken)) (b .places-test .taken))
+    sym (all-fails (hasEnough (a .t1) 0 (a .t2)) (b .before .places .p) (a .places) (rw zero-add (lt-leb _ _ (c .if1 .taken))) (b .places-test .taken))
 
-pub enough-spec : {M : Type 1} → statement M
-enough-spec =
+pub enough-for-spec : {M : Type 1} → statement M
+enough-for-spec =
     tie.close
     (tie.spec
     Inv-places
     μ-places
     places-holds
     mul-if1
-    shared-slice-read-if1
-    add-if1
+    array-read-if1
     mul-if1-2
-    shared-slice-read-if1-2
+    array-read-if1-2
     add-p
     places-less
     places-again

@@ -1,0 +1,14 @@
+-- Wider bytes are the same numbers.
+use mathlib.Core.Path.{refl}
+use borrow.Author.Needs.{needs}
+use Rattle.firing.proofs.state_of.Statement.{statement}
+use Rattle.firing.proofs.state_of.Tie as tie
+
+widened-requires : tie.Need-widened-requires
+widened-requires c κs = search needs
+
+returns : tie.Need-returns
+returns c = rw (c .widened .ensures) refl
+
+pub state-of-spec : {M : Type 1} → statement M
+state-of-spec = tie.close (tie.spec widened-requires returns)
