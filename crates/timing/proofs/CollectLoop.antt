@@ -8,7 +8,7 @@ use mathlib.Core.Path.{_≡_, refl, sym, ap, _∙_}
 use mathlib.Core.Bool.{Bool, true, false, cond}
 use mathlib.Core.Logic.{⊎-elim}
 use mathlib.Core.List.{List, _∷_}
-use lib.ListN.{length, getD, set, drop, replicate, length-set, drop-of-length-le}
+use lib.ListN.{length, getD, set, drop, replicate, length-set, length-replicate, drop-of-length-le}
 use lib.Seq.{getD-set-same, getD-set-other}
 use borrow.Author.Tests.{le-ltb}
 use Rattle.laws.specs.Slots.{firstOf, length-first, getD-first, getD-within}
@@ -28,7 +28,7 @@ use Rattle.firing.specs.declared.State.{State}
 use Rattle.firing.specs.declared.Rows.{Rows}
 use Rattle.firing.specs.Semantics.{Restart, startMarking, transitionAt, enabled, after}
 use Rattle.firing.specs.Replay.{ruleOf, waited, fired}
-use Rattle.firing.specs.Rows.{HoldsWithin, enoughIn, limitIn, FiredIn, standing}
+use Rattle.firing.specs.Rows.{Holds, enoughIn, limitIn, FiredIn, standing}
 use Rattle.firing.proofs.PlayLoop.{start-standing}
 use Rattle.firing.proofs.RowLaws.{enough-same, limit-same, fired-same}
 use Rattle.timing.specs.declared.Bound.{Bound}
@@ -45,7 +45,7 @@ unfolding tokensJudged enabled
 unlisted-tokens net m t n l = rw (le-ltb t (net .transitions) l) refl
 
 -- the judgement over rows is that over the net
-tokens-same : (net : Net) (rows : Rows) → HoldsWithin rows (net .table) (net .transitions) (net .places) → (m : List ℕ) (t n : ℕ) → t < net .transitions
+tokens-same : (net : Net) (rows : Rows) → Holds rows (net .table) (net .transitions) (net .places) → (m : List ℕ) (t n : ℕ) → t < net .transitions
     → tokensIn (rows .take) (rows .give) m (net .places) t n ≡ tokensJudged net (firstOf (net .places) 0 m) t n
 unfolding tokensIn tokensJudged
 tokens-same net rows held m t n l = rw (enough-same net rows held m t l, limit-same net rows held m t l) refl
@@ -103,23 +103,24 @@ module _ (net : Net) (order : Order) where
 
   pub record Collecting (origin low : List ℕ) (closed : List Bool) (high : List ℕ) (st : State) (i : ℕ) : Type 0 where
     pub within : i ≤ order .count
-    pub instant : st .now ≡ i
     pub same : said ≡ tokens net (drop i whole) (counted st .marking) i
     pub ahead : (k : ℕ) → window (i + k) ≡ windows (windowsFrom net rule (drop i whole) (counted st)) k
     pub held : (k : ℕ) → k < i → window k ≡ windowIn origin low closed high k
     pub long : (length origin ≡ 64) × (length low ≡ 64) × (length closed ≡ 64) × (length high ≡ 64)
+    pub slots : (length (st .marking) ≡ 16) × (length (st .since) ≡ 32)
 
-  module _ (st : State) (m : firstOf (net .places) 0 (st .marking) ≡ firstOf (net .places) 0 (net .start)) (s : st .since ≡ replicate 32 0) (z : st .now ≡ 0) where
+  module _ (st : State) (m : firstOf (net .places) 0 (st .marking) ≡ firstOf (net .places) 0 (net .start)) (s : st .since ≡ replicate 32 0) (z : st .now ≡ 0)
+      (slots : length (st .marking) ≡ 16) where
     pub collecting-start : Collecting (replicate 64 0) (replicate 64 0) (replicate 64 false) (replicate 64 0) st 0
     unfolding windowsOf startMarking
     collecting-start =
         record {
           within = omega arith;
-          instant = z;
           same = ap (λ (l : List ℕ). tokens net whole l 0) (sym m);
           ahead = λ k. ap window (zero-add k) ∙ ap (λ (x : State). windows (windowsFrom net rule whole x) k) (start-standing net st m s z);
           held = λ k l. absurd (not-suc-le-zero l);
           long = (refl, refl, refl, refl);
+          slots = (slots, ap length s ∙ length-replicate {A = ℕ} 32 0);
         }
 
   module _ (origin low : List ℕ) (closed : List Bool) (high : List ℕ) (st : State) (i : ℕ) (s : Collecting origin low closed high st i) where
@@ -152,7 +153,7 @@ module _ (net : Net) (order : Order) where
       pub collecting-unlisted : net .transitions ≤ next → Collects net rule whole (result (Refused (NotEnabled (i + 1))))
       collecting-unlisted h = refuses (NotEnabled (i + 1)) (unlisted-tokens net (counted st .marking) next (i + 1) h)
 
-      module _ (rows : Rows) (holds : HoldsWithin rows (net .table) (net .transitions) (net .places)) (listed : next < net .transitions) (c : Checked)
+      module _ (rows : Rows) (holds : Holds rows (net .table) (net .transitions) (net .places)) (listed : next < net .transitions) (c : Checked)
           (is : c ≡ tokensIn (rows .take) (rows .give) (st .marking) (net .places) next (i + 1)) where
         judgement : c ≡ tokensJudged net (counted st .marking) next (i + 1)
         judgement = is ∙ tokens-same net rows holds (st .marking) next (i + 1) listed
@@ -188,15 +189,14 @@ module _ (net : Net) (order : Order) where
               rw (bound, known, getD-first (net .transitions) 0 (st .since) next listed, upper-held (transitionAt net next .latest)) refl
 
           pub collecting-more : c ≡ Passed → order .count ≤ 64 → (then : State)
-              → FiredIn (rows .take) (rows .give) later (net .places) (net .transitions) (order .memory) next then
+              → FiredIn (rows .take) (rows .give) later (net .places) (order .memory) next then
               → Collecting (set origin i (getD (st .since) next 0)) (set low i (tr .earliest)) (set closed i (b .closed)) (set high i (b .high)) then (i + 1)
           unfolding fired found
           collecting-more e short then f =
-              let same = fired-same net rows holds later next listed (order .memory) then f in
+              let same = fired-same net rows holds later next listed (order .memory) then slot f in
               let (a₁, a₂, a₃, a₄) = s .long in
               record {
                 within = omega arith;
-                instant = f .now ∙ ap (λ (k : ℕ). k + 1) (s .instant);
                 same =
                     turn ∙ ap (λ (x : Checked). also x (tokens net (drop (i + 1) whole) (after net (counted st .marking) next) (i + 1))) (sym judgement ∙ e)
                     ∙ ap (λ (x : State). tokens net (drop (i + 1) whole) (x .marking) (i + 1)) (sym same);
@@ -207,4 +207,5 @@ module _ (net : Net) (order : Order) where
                     (λ (z : k < i). s .held k z ∙ sym (window-kept origin low closed high i _ _ _ _ k z))
                     (eq-or-lt-of-le (le-of-suc-le-suc (rw add-one at h)));
                 long = (length-set origin i _ ∙ a₁, length-set low i _ ∙ a₂, length-set closed i _ ∙ a₃, length-set high i _ ∙ a₄);
+                slots = (f .long .0 ∙ s .slots .0, f .long .1 ∙ s .slots .1);
               }

@@ -10,6 +10,7 @@ ghost use mathlib.Core.Path.{_≡_};
 ghost use Prim.Native.Nat.{ℕ, suc, _≤_, _<_};
 ghost use lib.ListN.{length, getD, take};
 ghost use Rattle.firing.specs.Replay.{ruleOf};
+ghost use Rattle.firing.specs.Rows.{Blank, InBytes};
 ghost use Rattle.timing.specs.Windows.{firesOf};
 ghost use Rattle.timing.specs.Schedule.{waitsBetween};
 ghost use Rattle.timing.specs.Rounding.{roundedRun, timetableRun};
@@ -95,18 +96,18 @@ pub fn timetable_run(order: Order, instants: [u64; 65]) -> Run
 
 // The judgement of firing number n, of t, by its tokens alone.
 fn judge_tokens<'a>(
-    take: &'a [u32],
-    give: &'a [u32],
-    marking: [u32; 16],
+    take: &'a [u8],
+    give: &'a [u8],
+    marking: &'a [u8],
     places: usize,
     t: usize,
     n: usize,
 ) -> Checked
-    requires { ⌜ (places ≤ 16) × (t < 32) × (length (now take) ≡ 512) × (length (now give) ≡ 512) ⌝ }
-    ensures { λ r. ⌜ r ≡ tokensIn (now (take .entry)) (now (give .entry)) marking places t n ⌝ }
+    requires { ⌜ (places ≤ 16) × (t < 32) × (length (now take) ≡ 512) × (length (now give) ≡ 512) × (length (now marking) ≡ 16) × Blank (now take) places ⌝ }
+    ensures { λ r. ⌜ r ≡ tokensIn (now (take .entry)) (now (give .entry)) (now (marking .entry)) places t n ⌝ }
 {
-    if firing::enough(take, 16 * t, &marking, places) {
-        if firing::within_limit(take, give, 16 * t, &marking, places) {
+    if firing::covered(take, 16 * t, marking) {
+        if firing::within_limit(take, give, 16 * t, marking, places) {
             Checked::Passed
         } else {
             Checked::Refused(Refusal::TooManyTokens(n))
@@ -141,12 +142,11 @@ fn index(number: u32) -> usize
 
 // What the tokens say of an order, and the window of each firing.
 pub fn collect(net: Net, order: Order) -> Collected
-    requires { ⌜ (net .places ≤ 16) × (net .transitions ≤ 32) × (order .count ≤ 64) ⌝ }
+    requires { ⌜ (net .places ≤ 16) × (net .transitions ≤ 32) × (order .count ≤ 64) × InBytes net ⌝ }
     ensures { λ r. ⌜ Collects net (ruleOf net (order .memory)) (firesOf order) r ⌝ }
 {
     let places = net.places;
     let transitions = net.transitions;
-    let table = net.table;
     let tokens = net.start;
     let count = order.count;
     let memory = order.memory;
@@ -154,10 +154,12 @@ pub fn collect(net: Net, order: Order) -> Collected
     let mut low = [0u64; 64];
     let mut closed = [false; 64];
     let mut high = [0u64; 64];
-    let rows = firing::rows_within(table, transitions, places);
+    let rows = firing::rows_of(net);
     let take = rows.take;
     let give = rows.give;
-    let mut st = firing::start(tokens, places);
+    let column = rows.column;
+    let mut marking = firing::narrowed(tokens, places);
+    let mut since = [0u64; 32];
     let mut i: usize = 0;
     while i < count {
         let t = index(order.fires[i]);
@@ -170,8 +172,7 @@ pub fn collect(net: Net, order: Order) -> Collected
                 high,
             };
         }
-        let marking = st.marking;
-        let c = judge_tokens(&take, &give, marking, places, t, i + 1);
+        let c = judge_tokens(&take, &give, &marking, places, t, i + 1);
         let Checked::Passed = c else {
             return Collected {
                 checked: c,
@@ -184,14 +185,22 @@ pub fn collect(net: Net, order: Order) -> Collected
         let tr = net.table[t];
         let latest = tr.latest;
         let b = bound_of(latest);
-        origin[i] = st.since[t] as usize;
+        origin[i] = since[t] as usize;
         low[i] = tr.earliest as u64;
         closed[i] = b.closed;
         high[i] = b.high;
-        let mut later = st;
-        later.now = st.now + 1;
-        st = firing::fire(&take, &give, later, places, transitions, memory, t);
         i += 1;
+        firing::fire(
+            &take,
+            &give,
+            &column,
+            &mut marking,
+            &mut since,
+            i as u64,
+            places,
+            memory,
+            t,
+        );
     }
     Collected {
         checked: Checked::Passed,

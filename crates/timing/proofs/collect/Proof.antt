@@ -1,34 +1,34 @@
 -- The loop keeps what the tokens say and the windows passed (`Collecting`); the first refusal answers for all, and so does the end.
 use Prim.Native.Nat.{_-_}
 use native.Mathlib.Omega.{arith}
-use mathlib.Core.Path.{_≡_, sym, _∙_}
-use lib.ListN.{length}
+use mathlib.Core.Path.{_≡_, refl, sym, _∙_}
+use lib.ListN.{length, replicate}
 use borrow.Author.Needs.{needs}
 use Rattle.timing.proofs.CollectLoop.{Collecting, collecting-start, collecting-done, collecting-unlisted, collecting-refused, collecting-more, allowed-tokens}
 use Rattle.timing.proofs.collect.Statement.{statement}
 use Rattle.timing.proofs.collect.Tie as tie
 
 abbrev Inv-loop : tie.InvT-loop
-Inv-loop net order places transitions count memory origin₀ low₀ closed₀ high₀ take give st₀ i₀ origin low closed high st i =
-    Collecting net order origin low closed high st i
+Inv-loop net order places transitions count memory origin₀ low₀ closed₀ high₀ take give column marking₀ since₀ i₀ origin low closed high marking since i =
+    Collecting net order origin low closed high (record { marking = marking; since = since; now = i }) i
 
 abbrev μ-loop : tie.MeasureT-loop
-μ-loop net order places transitions count memory origin₀ low₀ closed₀ high₀ take give st₀ i₀ origin low closed high st i = count - i
+μ-loop net order places transitions count memory origin₀ low₀ closed₀ high₀ take give column marking₀ since₀ i₀ origin low closed high marking since i = count - i
 
-rows-long : (w : tie.After-rows-within Inv-loop μ-loop) → (length (w .rows-within .result .take) ≡ 512) × (length (w .rows-within .result .give) ≡ 512)
+rows-long : (w : tie.After-rows-of Inv-loop μ-loop) →
+    (length (w .rows-of .result .take) ≡ 512) × (length (w .rows-of .result .give) ≡ 512) × (length (w .rows-of .result .column) ≡ 512)
 rows-long w = search needs
 
-rows-within-requires : tie.Need-rows-within-requires Inv-loop μ-loop
-rows-within-requires c κs = search needs
+rows-of-requires : tie.Need-rows-of-requires Inv-loop μ-loop
+rows-of-requires c κs = search needs
 
-start-requires : tie.Need-start-requires Inv-loop μ-loop
-start-requires c κs = search needs
+narrowed-requires : tie.Need-narrowed-requires Inv-loop μ-loop
+narrowed-requires c κs = search needs
 
 loop-holds : tie.Need-loop-holds Inv-loop μ-loop
 loop-holds c =
     let a = c .before .before .before .before .before .before .args in
-    let e = c .start .ensures in
-    collecting-start (a .t1) (a .t2) (c .start .result) (e .0) (e .1) (e .2)
+    collecting-start (a .t1) (a .t2) (record { marking = c .narrowed .result; since = replicate 32 0; now = 0 }) (c .narrowed .ensures) refl refl (search needs)
 
 mul-index : tie.Need-mul-index Inv-loop μ-loop
 mul-index c = search needs
@@ -49,7 +49,7 @@ returns c =
     let b = l .before in
     let a = b .before .before .before .before .before .before .before .args in
     let v = b .loop in
-    collecting-unlisted (a .t1) (a .t2) (v .origin) (v .low) (v .closed) (v .high) (v .st) (v .i) (v .inv) (l .loop-test .taken) (x .index .result) (x .index .ensures)
+    collecting-unlisted (a .t1) (a .t2) (v .origin) (v .low) (v .closed) (v .high) (record { marking = v .marking; since = v .since; now = v .i }) (v .i) (v .inv) (l .loop-test .taken) (x .index .result) (x .index .ensures)
     (c .if1 .taken)
 
 slice-aggregate-judge-tokens : tie.Need-slice-aggregate-judge-tokens Inv-loop μ-loop
@@ -58,11 +58,19 @@ slice-aggregate-judge-tokens c = search needs
 slice-aggregate-judge-tokens-2 : tie.Need-slice-aggregate-judge-tokens-2 Inv-loop μ-loop
 slice-aggregate-judge-tokens-2 c = search needs
 
+slice-aggregate-judge-tokens-3 : tie.Need-slice-aggregate-judge-tokens-3 Inv-loop μ-loop
+slice-aggregate-judge-tokens-3 c = search needs
+
 add-judge-tokens : tie.Need-add-judge-tokens Inv-loop μ-loop
 add-judge-tokens c = search needs
 
 judge-tokens-requires : tie.Need-judge-tokens-requires Inv-loop μ-loop
-judge-tokens-requires c κs = search needs
+judge-tokens-requires c κs =
+    let e = c .before .before .before in
+    let b = e .before .before .before .before in
+    let w = b .before .before .before .before .before in
+    let s = w .before .before in
+    (s .pre .0, omega (arith, e .if1 .left, s .pre), rows-long w .0, rows-long w .1, b .loop .inv .slots .0, w .rows-of .ensures .blank)
 
 enum-told : tie.Need-enum-told Inv-loop μ-loop
 enum-told c = search needs
@@ -77,11 +85,11 @@ returns-2 c =
     let x = e .before in
     let l = x .before .before in
     let b = l .before in
-    let w = b .before .before .before .before in
-    let s = w .before .before .before in
+    let w = b .before .before .before .before .before in
+    let s = w .before .before in
     let v = b .loop in
-    collecting-refused (s .args .t1) (s .args .t2) (v .origin) (v .low) (v .closed) (v .high) (v .st) (v .i) (v .inv) (l .loop-test .taken) (x .index .result)
-    (x .index .ensures) (w .rows-within .result) (w .rows-within .ensures) (e .if1 .left) (j .judge-tokens .result) (j .judge-tokens .ensures) _ (c .enum-told2 .given .1)
+    collecting-refused (s .args .t1) (s .args .t2) (v .origin) (v .low) (v .closed) (v .high) (record { marking = v .marking; since = v .since; now = v .i }) (v .i) (v .inv) (l .loop-test .taken) (x .index .result)
+    (x .index .ensures) (w .rows-of .result) (w .rows-of .ensures) (e .if1 .left) (j .judge-tokens .result) (j .judge-tokens .ensures) _ (c .enum-told2 .given .1)
 
 mul-tr : tie.Need-mul-tr Inv-loop μ-loop
 mul-tr c = search needs
@@ -95,8 +103,8 @@ bound-of-requires c κs = search needs
 mul-origin : tie.Need-mul-origin Inv-loop μ-loop
 mul-origin c = search needs
 
-element-copy-out-origin : tie.Need-element-copy-out-origin Inv-loop μ-loop
-element-copy-out-origin c = search needs
+array-read-origin : tie.Need-array-read-origin Inv-loop μ-loop
+array-read-origin c = search needs
 
 mul-origin-2 : tie.Need-mul-origin-2 Inv-loop μ-loop
 mul-origin-2 c = search needs
@@ -122,61 +130,68 @@ mul-high c = search needs
 array-write-high : tie.Need-array-write-high Inv-loop μ-loop
 array-write-high c = search needs
 
-add-later : tie.Need-add-later Inv-loop μ-loop
-add-later c = search needs
+add-i : tie.Need-add-i Inv-loop μ-loop
+add-i c = search needs
 
 slice-aggregate-fire : tie.Need-slice-aggregate-fire Inv-loop μ-loop
-slice-aggregate-fire c =
-    let j = c .before .before .before .before .before .before .before in
-    let b = j .before .before .before .before .before .before .before .before in
-    sym (rows-long (b .before .before .before .before) .0)
+slice-aggregate-fire c = search needs
 
 slice-aggregate-fire-2 : tie.Need-slice-aggregate-fire-2 Inv-loop μ-loop
 slice-aggregate-fire-2 c =
-    let j = c .before .before .before .before .before .before .before .before in
-    let b = j .before .before .before .before .before .before .before .before in
-    sym (rows-long (b .before .before .before .before) .1)
+    let p = c .before .before .before .before .before in
+    let b = p .before .before .before .before .before .before .before .before .before .before in
+    sym (rows-long (b .before .before .before .before .before) .1)
+
+slice-aggregate-fire-3 : tie.Need-slice-aggregate-fire-3 Inv-loop μ-loop
+slice-aggregate-fire-3 c =
+    let p = c .before .before .before .before .before .before in
+    let b = p .before .before .before .before .before .before .before .before .before .before in
+    sym (rows-long (b .before .before .before .before .before) .2)
+
+slice-aggregate-fire-4 : tie.Need-slice-aggregate-fire-4 Inv-loop μ-loop
+slice-aggregate-fire-4 c = search needs
+
+slice-aggregate-fire-5 : tie.Need-slice-aggregate-fire-5 Inv-loop μ-loop
+slice-aggregate-fire-5 c = search needs
 
 fire-requires : tie.Need-fire-requires Inv-loop μ-loop
 fire-requires c κs =
-    let p = c .before .before .before .before .before .before in
+    let p = c .before .before .before .before .before .before .before .before in
     let j = p .before .before in
     let e = j .before .before .before .before in
     let b = e .before .before .before .before in
-    let w = b .before .before .before .before in
-    let s = w .before .before .before in (
-      (s .pre .0, s .pre .1, omega (arith, e .if1 .left, s .pre), rows-long w .0, rows-long w .1),
-      (allowed-tokens _ _ _ _ _ _ (sym (j .judge-tokens .ensures) ∙ p .enum-told .given .1), w .rows-within .ensures .blank),
+    let w = b .before .before .before .before .before in
+    let s = w .before .before in (
+      (s .pre .0, omega (arith, e .if1 .left, s .pre), rows-long w .0, rows-long w .1, rows-long w .2, b .loop .inv .slots .0, b .loop .inv .slots .1),
+      (allowed-tokens _ _ _ _ _ _ (sym (j .judge-tokens .ensures) ∙ p .enum-told .given .1), (w .rows-of .ensures .blank, w .rows-of .ensures .columns)),
     )
-
-add-i : tie.Need-add-i Inv-loop μ-loop
-add-i c = search needs
 
 loop-less : tie.Need-loop-less Inv-loop μ-loop
 loop-less c = search needs
 
 loop-again : tie.Need-loop-again Inv-loop μ-loop
 loop-again c =
-    let n = c .before .before .before .before .before in
+    let f = c .before .before in
+    let n = f .before .before .before .before .before .before .before in
     let p = n .before .before in
     let j = p .before .before in
     let e = j .before .before .before .before in
     let x = e .before in
     let l = x .before .before in
     let b = l .before in
-    let w = b .before .before .before .before in
-    let s = w .before .before .before in
+    let w = b .before .before .before .before .before in
+    let s = w .before .before in
     let v = b .loop in
-    collecting-more (s .args .t1) (s .args .t2) (v .origin) (v .low) (v .closed) (v .high) (v .st) (v .i) (v .inv) (l .loop-test .taken) (x .index .result)
-    (x .index .ensures) (w .rows-within .result) (w .rows-within .ensures) (e .if1 .left) (j .judge-tokens .result) (j .judge-tokens .ensures) (s .pre .1) _
-    (n .bound-of .result) (n .bound-of .ensures) (p .enum-told .given .1) (s .pre .2) (c .fire .result) (c .fire .ensures)
+    collecting-more (s .args .t1) (s .args .t2) (v .origin) (v .low) (v .closed) (v .high) (record { marking = v .marking; since = v .since; now = v .i }) (v .i) (v .inv) (l .loop-test .taken) (x .index .result)
+    (x .index .ensures) (w .rows-of .result) (w .rows-of .ensures) (e .if1 .left) (j .judge-tokens .result) (j .judge-tokens .ensures) (s .pre .1) _
+    (n .bound-of .result) (n .bound-of .ensures) (p .enum-told .given .1) (s .pre .2) _ (f .fire .ensures)
 
 returns-3 : tie.Need-returns-3 Inv-loop μ-loop
 returns-3 c =
     let b = c .before in
     let a = b .before .before .before .before .before .before .before .args in
     let v = b .loop in
-    collecting-done (a .t1) (a .t2) (v .origin) (v .low) (v .closed) (v .high) (v .st) (v .i) (v .inv) (c .loop-test .left)
+    collecting-done (a .t1) (a .t2) (v .origin) (v .low) (v .closed) (v .high) (record { marking = v .marking; since = v .since; now = v .i }) (v .i) (v .inv) (c .loop-test .left)
 
 pub collect-spec : {M : Type 1} → statement M
 collect-spec =
@@ -184,8 +199,8 @@ collect-spec =
     (tie.spec
     Inv-loop
     μ-loop
-    rows-within-requires
-    start-requires
+    rows-of-requires
+    narrowed-requires
     loop-holds
     mul-index
     element-copy-out-index
@@ -194,6 +209,7 @@ collect-spec =
     returns
     slice-aggregate-judge-tokens
     slice-aggregate-judge-tokens-2
+    slice-aggregate-judge-tokens-3
     add-judge-tokens
     judge-tokens-requires
     enum-told
@@ -203,7 +219,7 @@ collect-spec =
     element-copy-out-tr
     bound-of-requires
     mul-origin
-    element-copy-out-origin
+    array-read-origin
     mul-origin-2
     array-write-origin
     cast-low
@@ -212,11 +228,13 @@ collect-spec =
     array-write-closed
     mul-high
     array-write-high
-    add-later
+    add-i
     slice-aggregate-fire
     slice-aggregate-fire-2
+    slice-aggregate-fire-3
+    slice-aggregate-fire-4
+    slice-aggregate-fire-5
     fire-requires
-    add-i
     loop-less
     loop-again
     returns-3)
