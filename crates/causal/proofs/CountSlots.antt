@@ -62,22 +62,22 @@ module _ (counts : List ℕ) (top p : ℕ) where
 
 -- ---- a new producer
 -- the state of a loop that has given the weights of the first p places
-pub record Giving (counts₀ weights : List ℕ) (row places producer : ℕ) (counts : List ℕ) (p : ℕ) : Type 0 where
+pub record Giving (counts₀ weights : List ℕ) (places producer : ℕ) (counts : List ℕ) (p : ℕ) : Type 0 where
   pub within : p ≤ places
   pub size : length counts ≡ 1040
-  pub given : (q : ℕ) → q < p → getD counts (65 * q + producer) 0 ≡ getD weights (row + q) 0
+  pub given : (q : ℕ) → q < p → getD counts (65 * q + producer) 0 ≡ getD weights q 0
   pub kept : (q i : ℕ) → i < producer → getD counts (65 * q + i) 0 ≡ getD counts₀ (65 * q + i) 0
 
-module _ {counts₀ weights : List ℕ} {row places producer : ℕ} where
-  pub giving-start : length counts₀ ≡ 1040 → Giving counts₀ weights row places producer counts₀ 0
+module _ {counts₀ weights : List ℕ} {places producer : ℕ} where
+  pub giving-start : length counts₀ ≡ 1040 → Giving counts₀ weights places producer counts₀ 0
   giving-start e = record { within = omega arith; size = e; given = λ q l. absurd (not-suc-le-zero l); kept = λ q i l. refl }
 
-  module _ {counts : List ℕ} {p : ℕ} (s : Giving counts₀ weights row places producer counts p) where
+  module _ {counts : List ℕ} {p : ℕ} (s : Giving counts₀ weights places producer counts p) where
     pub giving-more : places ≤ 16 → producer < 65 → p < places
-        → Giving counts₀ weights row places producer (set counts (65 * p + producer) (getD weights (row + p) 0)) (p + 1)
+        → Giving counts₀ weights places producer (set counts (65 * p + producer) (getD weights p 0)) (p + 1)
     giving-more few slot l =
         let at = 65 * p + producer in
-        let w = getD weights (row + p) 0 in
+        let w = getD weights p 0 in
         record {
           within = omega arith;
           size = length-set counts at w ∙ s .size;
@@ -89,7 +89,7 @@ module _ {counts₀ weights : List ℕ} {row places producer : ℕ} where
           kept = λ q i b. getD-set-other counts at (65 * q + i) w 0 (λ (x : 65 * q + i ≡ at). omega arith) ∙ s .kept q i b;
         }
 
-    pub giving-done : places ≤ p → (q : ℕ) → q < places → queueIn counts (suc producer) q ≡ queueIn counts₀ producer q ++ (getD weights (row + q) 0 ∷ [])
+    pub giving-done : places ≤ p → (q : ℕ) → q < places → queueIn counts (suc producer) q ≡ queueIn counts₀ producer q ++ (getD weights q 0 ∷ [])
     giving-done l q b =
         queue-last counts producer q
         ∙ rw (queue-same counts₀ producer q counts (λ i. s .kept q i), s .given q (omega arith)) refl

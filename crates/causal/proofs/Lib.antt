@@ -1,4 +1,5 @@
 pub mod CountSlots
+pub mod Elements
 pub mod EventLaws
 pub mod FreeLoop
 pub mod LineLoop

@@ -1,5 +1,5 @@
--- A row of weights is taken place by place: the items of the places are written one behind the other, and each place's slots are changed by its own
--- taking alone.
+-- A weight is taken from place after place: the items of the places are written one behind the other, and each place's slots are changed by its own
+-- taking alone. Where the weight is 0, there are no items, and nothing changes.
 use Prim.Native.Nat.{ℕ, zero, suc, _+_, _-_, _*_, _≤_, _<_}
 use native.Mathlib.Nat.{add-zero, zero-add, sub-zero, add-suc, suc-add, not-suc-le-zero, eq-or-lt-of-le, le-of-suc-le-suc, lt-suc-self}
 use native.Mathlib.Numerals.{add-one}
@@ -21,9 +21,10 @@ use Rattle.causal.specs.Keys.{fromKey}
 use Rattle.causal.specs.Process.{Queues, Item, oldest, without, itemsFrom, itemsOf}
 use Rattle.causal.specs.Free.{tookFrom}
 use Rattle.causal.specs.Print.{itemText, joinedBy, listText, eventText}
-use Rattle.causal.specs.Counts.{queueIn, AllEmptied, takenText, Took, takenIn, eventIn, TookRow}
+use Rattle.causal.specs.Counts.{queueIn, AllEmptied, takenText, Took, takenIn, eventIn, TookAll}
 use Rattle.causal.proofs.Listing.{Listing, listing-room, listing-more}
 use Rattle.causal.proofs.CountSlots.{queue-same}
+use Rattle.causal.proofs.TakeLoop.{oldest-none, without-none}
 
 -- ---- the items of the places from p on
 unfoldable pub itemsBehind : Queues → ℕ → ℕ → List Item
@@ -62,14 +63,14 @@ module _ (tokens : Queues) (places : ℕ) where
       rw (one, add-one) (map-append itemText (itemsFrom p 0 (tokens p)) (itemsBehind tokens (suc p) (places - suc p)))
 
 -- ---- the loop
-module _ (counts₀ : List ℕ) (top places : ℕ) (weights : List ℕ) (row : ℕ) where
+module _ (counts₀ : List ℕ) (top places : ℕ) (weights : List ℕ) where
   abbrev weight : ℕ → ℕ
-  weight p = getD weights (row + p) 0
+  weight p = getD weights p 0
 
   abbrev pub tokens : Queues
-  tokens = takenIn counts₀ top weights row
+  tokens = takenIn counts₀ top weights
 
-  pub record RowTaking (counts heads : List ℕ) (newest : Bool) (p : ℕ) : Type 0 where
+  pub record LineTaking (counts heads : List ℕ) (newest : Bool) (p : ℕ) : Type 0 where
     pub within : p ≤ places
     pub size : length counts ≡ length counts₀
     pub slots : length heads ≡ 16
@@ -78,14 +79,14 @@ module _ (counts₀ : List ℕ) (top places : ℕ) (weights : List ℕ) (row : �
     pub emptied : AllEmptied counts heads top places
     pub took : newest ≡ tookFrom (top - 1) (itemsOf tokens p)
 
-  pub row-start : (heads : List ℕ) → length heads ≡ 16 → AllEmptied counts₀ heads top places → RowTaking counts₀ heads false 0
+  pub taking-start : (heads : List ℕ) → length heads ≡ 16 → AllEmptied counts₀ heads top places → LineTaking counts₀ heads false 0
   unfolding itemsOf tookFrom
-  row-start heads e h =
+  taking-start heads e h =
       record { within = omega arith; size = refl; slots = e; passed = λ q l. absurd (not-suc-le-zero l); ahead = λ k l. refl; emptied = h; took = refl }
 
-  module _ {counts heads : List ℕ} {newest : Bool} {p : ℕ} (s : RowTaking counts heads newest p) where
-    pub row-done : places ≤ p → (to : ℕ) → TookRow counts₀ top places weights row (record { to = to; newest = newest }) counts heads
-    row-done l to =
+  module _ {counts heads : List ℕ} {newest : Bool} {p : ℕ} (s : LineTaking counts heads newest p) where
+    pub taking-done : places ≤ p → (to : ℕ) → TookAll counts₀ top places weights (record { to = to; newest = newest }) counts heads
+    taking-done l to =
         let all : p ≡ places = omega (arith, s .within) in
         record { size = s .size; slots = s .slots; queues = λ q b. s .passed q (omega arith); emptied = s .emptied; newest = rw all at (s .took) }
 
@@ -94,19 +95,45 @@ module _ (counts₀ : List ℕ) (top places : ℕ) (weights : List ℕ) (row : �
       as-before = queue-same counts₀ top p counts (λ i b. s .ahead (65 * p + i) (omega arith))
 
       -- the items of this place
-      row-texts : textsFrom tokens places p ≡ map itemText (itemsFrom p 0 (oldest (weight p) (queueIn counts top p))) ++ textsFrom tokens places (p + 1)
-      row-texts = rw as-before (texts-next tokens places p l)
+      place-texts : textsFrom tokens places p ≡ map itemText (itemsFrom p 0 (oldest (weight p) (queueIn counts top p))) ++ textsFrom tokens places (p + 1)
+      place-texts = rw as-before (texts-next tokens places p l)
 
       -- they are written behind what stands
       module _ {begin : ℕ} {out₀ : List ℕ} {at : ℕ} {texts : List (List ℕ)} {to : ℕ} {out : List ℕ}
           (w : Listing begin out₀ at texts (textsFrom tokens places p) to out)
           (room : at + length (joinedBy (eqb at begin) texts) ≤ length out₀) where
-        pub row-room : to + length (takenText counts top p (weight p) begin to) ≤ length out
-        row-room = listing-room w room (map itemText (itemsFrom p 0 (oldest (weight p) (queueIn counts top p)))) (textsFrom tokens places (p + 1)) row-texts
+        pub place-room : to + length (takenText counts top p (weight p) begin to) ≤ length out
+        place-room = listing-room w room (map itemText (itemsFrom p 0 (oldest (weight p) (queueIn counts top p)))) (textsFrom tokens places (p + 1)) place-texts
 
-        pub row-listed : {to′ : ℕ} {out′ : List ℕ} → Wrote out to (takenText counts top p (weight p) begin to) to′ out′
+        pub place-listed : (to′ : ℕ) (out′ : List ℕ) → Wrote out to (takenText counts top p (weight p) begin to) to′ out′
             → Listing begin out₀ at texts (textsFrom tokens places (p + 1)) to′ out′
-        row-listed = listing-more w room (map itemText (itemsFrom p 0 (oldest (weight p) (queueIn counts top p)))) (textsFrom tokens places (p + 1)) row-texts
+        place-listed to′ out′ =
+            listing-more w room (map itemText (itemsFrom p 0 (oldest (weight p) (queueIn counts top p)))) (textsFrom tokens places (p + 1)) place-texts
+
+      -- a place of which nothing is taken
+      module _ (none : weight p ≡ 0) where
+        no-items : itemsFrom p 0 (tokens p) ≡ []
+        no-items = rw (none, oldest-none) refl
+
+        pub none-listed : textsFrom tokens places p ≡ textsFrom tokens places (p + 1)
+        none-listed = texts-next tokens places p l ∙ rw no-items refl
+
+        pub taking-none : LineTaking counts heads newest (p + 1)
+        unfolding itemsOf
+        taking-none =
+            record {
+              within = omega arith;
+              size = s .size;
+              slots = s .slots;
+              passed = λ q b.
+                  ⊎-elim
+                  (λ (z : q ≡ p). rw (z, none, without-none) as-before)
+                  (λ (z : q < p). s .passed q z)
+                  (eq-or-lt-of-le (le-of-suc-le-suc (rw add-one at b)));
+              ahead = λ k b. s .ahead k (omega arith);
+              emptied = s .emptied;
+              took = s .took ∙ rw (add-one, no-items, append-nil) refl;
+            }
 
       module _ (r : Taking) (after : List ℕ) (t : Took counts p top (weight p) r after) where
         -- the slots of another place
@@ -118,8 +145,8 @@ module _ (counts₀ : List ℕ) (top places : ℕ) (weights : List ℕ) (row : �
             between : p ≤ q → p < q
             between h = ⊎-elim (λ (e : p ≡ q). absurd (d (sym e))) (λ m. m) (eq-or-lt-of-le h)
 
-        row-emptied : AllEmptied after (set heads p (r .head)) top places
-        row-emptied q b =
+        place-emptied : AllEmptied after (set heads p (r .head)) top places
+        place-emptied q b =
             elim (ℕ-discrete q p) [
               | yes e ↦ rw (e, getD-set-same heads p (r .head) 0 (omega (arith, s .slots))) (t .within, t .emptied)
               | no d ↦
@@ -127,9 +154,9 @@ module _ (counts₀ : List ℕ) (top places : ℕ) (weights : List ℕ) (row : �
                   (s .emptied q b .0, λ i h. other-slot q i d (omega (arith, s .emptied q b .0)) ∙ s .emptied q b .1 i h)
             ]
 
-        pub row-more : (newest′ : Bool) → newest′ ≡ (newest || r .newest) → RowTaking after (set heads p (r .head)) newest′ (p + 1)
+        pub taking-more : (newest′ : Bool) → newest′ ≡ (newest || r .newest) → LineTaking after (set heads p (r .head)) newest′ (p + 1)
         unfolding itemsOf
-        row-more newest′ e =
+        taking-more newest′ e =
             record {
               within = omega arith;
               size = t .size ∙ s .size;
@@ -140,15 +167,15 @@ module _ (counts₀ : List ℕ) (top places : ℕ) (weights : List ℕ) (row : �
                   (λ (z : q < p). queue-same counts top q after (λ i. other-slot q i (λ y. omega arith)) ∙ s .passed q z)
                   (eq-or-lt-of-le (le-of-suc-le-suc (rw add-one at b)));
               ahead = λ k b. t .elsewhere k (inr (omega arith)) ∙ s .ahead k (omega arith);
-              emptied = row-emptied;
+              emptied = place-emptied;
               took = e ∙ rw (add-one, s .took, t .newest, as-before) (sym (took-append (top - 1) (itemsOf tokens p) (itemsFrom p 0 (tokens p))));
             }
 
 -- ---- what the lines of a process take
 pub event-parts : (counts : List ℕ) (top : ℕ) (weights : List ℕ) (t places : ℕ) → eventText (eventIn counts top weights t places)
-    ≡ (fireKey ++ field t true) ++ (fromKey ++ listText (map itemText (itemsOf (takenIn counts top weights (16 * t)) places)))
+    ≡ (fireKey ++ field t true) ++ (fromKey ++ listText (map itemText (itemsOf (takenIn counts top weights) places)))
 event-parts counts top weights t places =
-    append-assoc (fireKey ++ field t true) fromKey (listText (map itemText (itemsOf (takenIn counts top weights (16 * t)) places)))
+    append-assoc (fireKey ++ field t true) fromKey (listText (map itemText (itemsOf (takenIn counts top weights) places)))
 
 -- items depend on the queues of the places alone
 pub items-same : (f g : Queues) (places : ℕ) → ((p : ℕ) → p < places → f p ≡ g p) → itemsOf f places ≡ itemsOf g places
@@ -158,9 +185,7 @@ items-same f g (suc p) h = rw (items-same f g p (λ q b. h q (omega arith)), h p
 
 -- all tokens
 pub items-left : (counts : List ℕ) (top places : ℕ) → places ≤ 16 → ((p : ℕ) → p < places → oldest 255 (queueIn counts top p) ≡ queueIn counts top p)
-    → itemsOf (takenIn counts top (replicate 16 255) 0) places ≡ itemsOf (queueIn counts top) places
+    → itemsOf (takenIn counts top (replicate 16 255)) places ≡ itemsOf (queueIn counts top) places
 items-left counts top places few h =
-    items-same (takenIn counts top (replicate 16 255) 0) (queueIn counts top) places
-    (λ p b.
-    ap (λ (n : ℕ). oldest n (queueIn counts top p)) (ap (λ (k : ℕ). getD (replicate 16 255) k 0) (zero-add p) ∙ getD-replicate 16 p 255 0 (omega arith))
-    ∙ h p b)
+    items-same (takenIn counts top (replicate 16 255)) (queueIn counts top) places
+    (λ p b. ap (λ (n : ℕ). oldest n (queueIn counts top p)) (getD-replicate 16 p 255 0 (omega arith)) ∙ h p b)

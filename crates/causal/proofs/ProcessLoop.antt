@@ -1,7 +1,7 @@
 -- The loop over a run's firings: the slots hold the queues behind the firings that were written, so the firings that are left come from them, and the flags
 -- tell who took from the firing before. The tokens of a place are its queue's total, and the order is one that the tokens allow: no place has more than 255.
 use Prim.Native.Nat.{ℕ, suc, _+_, _-_, _*_, _≤_, _<_}
-use native.Mathlib.Nat.{add-zero, zero-add, not-suc-le-zero, eq-or-lt-of-le, le-of-suc-le-suc}
+use native.Mathlib.Nat.{add-zero, not-suc-le-zero, eq-or-lt-of-le, le-of-suc-le-suc}
 use native.Mathlib.Numerals.{add-one}
 use native.Mathlib.Omega.{arith}
 use mathlib.Core.Path.{_≡_, refl, sym, ap, subst, _∙_}
@@ -10,7 +10,7 @@ use mathlib.Core.Logic.{⊎-elim}
 use mathlib.Core.List.{List, [], _∷_, _++_, map, append-assoc}
 use lib.ListN.{length, getD, set, drop, replicate, length-set, getD-replicate, drop-of-length-le, List·getD-append, List·getD-map}
 use lib.Seq.{drop-cons, getD-drop, getD-set-same, getD-set-other}
-use Rattle.laws.specs.Slots.{length-first, getD-first}
+use Rattle.laws.specs.Slots.{length-first, getD-first, getD-within}
 use Rattle.laws.specs.Parts.{drop-behind}
 use Rattle.laws.specs.Tabled.{entry}
 use Rattle.laws.specs.Joined.{joined, Joining, joining-start, joining-done, joining-room, joining-more}
@@ -20,23 +20,23 @@ use Rattle.reply.specs.declared.Checked.the-variants.{Passed}
 use Rattle.form.specs.Form.{also}
 use Rattle.form.proofs.Found.{also-first, also-second}
 use Rattle.text.specs.Decimal.{decimal}
+use Rattle.net.specs.declared.Transition.{Transition}
 use Rattle.net.specs.declared.Net.{Net}
+use Rattle.net.specs.Net.{noTransition}
 use Rattle.run.specs.declared.Firing.{Firing}
 use Rattle.run.specs.declared.Run.{Run}
 use Rattle.run.specs.Run.{noFiring}
-use Rattle.firing.specs.declared.Rows.{Rows}
-use Rattle.firing.specs.Semantics.{takes, gives, startMarking, after}
+use Rattle.firing.specs.Semantics.{transitionAt, takes, gives, startMarking, after}
 use Rattle.firing.specs.Replay.{firingsOf}
-use Rattle.firing.specs.Rows.{Holds}
 use Rattle.firing.proofs.Clocks.{enabled-listed, bounded-true}
 use Rattle.timing.specs.Windows.{tokensJudged, tokens, orderOf}
 use Rattle.timing.proofs.Meet.{tokens-passed, length-order}
 use Rattle.causal.specs.declared.ItemsLine.{ItemsLine}
 use Rattle.causal.specs.Keys.{leftKey, freeKey}
-use Rattle.causal.specs.Process.{Queues, Item, Event, oldest, itemsOf, startQueues, takenBy, queuesAfter, eventsFrom, queuesBehind, events, left}
+use Rattle.causal.specs.Process.{Queues, Event, oldest, itemsOf, startQueues, takenBy, queuesAfter, eventsFrom, queuesBehind, events, left}
 use Rattle.causal.specs.Free.{tookFrom, free}
 use Rattle.causal.specs.Print.{itemText, listText, eventText, eventsText, processText}
-use Rattle.causal.specs.Counts.{queueIn, AllEmptied, takenIn, eventIn, TookRow, unset}
+use Rattle.causal.specs.Counts.{queueIn, AllEmptied, takenIn, eventIn, TookAll, unset}
 use Rattle.causal.specs.Claims.{noEvent}
 use Rattle.causal.proofs.CountSlots.{queue-at, queue-length}
 use Rattle.causal.proofs.LineLoop.{items-same}
@@ -110,10 +110,10 @@ module _ (net : Net) (run : Run) where
 
   -- ---- the start
   module _ (counts : List ℕ) (none : List ℕ)
-      (given : (p : ℕ) → p < net .places → queueIn counts 1 p ≡ queueIn none 0 p ++ (getD (net .start) (0 + p) 0 ∷ [])) where
+      (given : (p : ℕ) → p < net .places → queueIn counts 1 p ≡ queueIn none 0 p ++ (getD (net .start) p 0 ∷ [])) where
     start-queues : Agree (net .places) (startQueues net) (queueIn counts 1)
     unfolding queueIn
-    start-queues p b = sym (given p b ∙ ap (λ (k : ℕ). getD (net .start) k 0 ∷ []) (zero-add p))
+    start-queues p b = sym (given p b)
 
     pub processing-start : length counts ≡ 1040 → ((p : ℕ) → p < net .places → getD (net .start) p 0 ≤ 255) → tokens net order (startMarking net) 0 ≡ Passed
         → net .places ≤ 16 → (out : List ℕ) (at : ℕ) → Processing out at counts (replicate 16 0) (replicate 64 false) out at 0
@@ -133,9 +133,8 @@ module _ (net : Net) (run : Run) where
         }
 
   -- ---- one firing
-  module _ (rows : Rows) (holds : Holds rows (net .table) (net .transitions)) (few : net .places ≤ 16) (short : run .count ≤ 64) {out₀ : List ℕ} {at : ℕ}
-      {counts heads : List ℕ} {linked : List Bool}
-      {out : List ℕ} {to i : ℕ} (s : Processing out₀ at counts heads linked out to i) (l : i < run .count) where
+  module _ {out₀ : List ℕ} {at : ℕ} {counts heads : List ℕ} {linked : List Bool} {out : List ℕ} {to i : ℕ} (s : Processing out₀ at counts heads linked out to i)
+      (l : i < run .count) where
     abbrev t : ℕ
     t = fireAt i
 
@@ -152,13 +151,6 @@ module _ (net : Net) (run : Run) where
     pub fire-listed : t < net .transitions
     fire-listed = enabled-listed net (s .marking) t (tokens-passed net (s .marking) t (i + 1) passed .0)
 
-    -- what it takes and gives, in rows
-    row-taken : (p : ℕ) → p < net .places → getD (rows .take) (16 * t + p) 0 ≡ takes net t p
-    row-taken p b = holds .taken t p fire-listed (omega arith)
-
-    row-given : (p : ℕ) → p < net .places → getD (rows .give) (16 * t + p) 0 ≡ gives net t p
-    row-given p b = holds .given t p fire-listed (omega arith)
-
     abbrev event : Event
     event = record { fire = t; from = itemsOf (takenBy net queues t) (net .places) }
 
@@ -166,28 +158,34 @@ module _ (net : Net) (run : Run) where
     unfolding eventsFrom
     firings-next = s .ahead ∙ rw (order-next i l) refl
 
-    event-here : getD firings i noEvent ≡ eventIn counts (i + 1) (rows .take) t (net .places)
-    event-here =
-        found-here firings (eventsFrom net (drop (i + 1) order) (queuesAfter net queues t)) i event noEvent firings-next
-        ∙ ap (λ (items : List Item). record { fire = t; from = items })
-        (items-same (takenBy net queues t) (takenIn counts (i + 1) (rows .take) (16 * t)) (net .places)
-        (λ p b. ap (λ (n : ℕ). oldest n (queues p)) (sym (row-taken p b))))
-
     behind-next : (p : ℕ) → queuesBehind net (drop i order) queues p ≡ queuesBehind net (drop (i + 1) order) (queuesAfter net queues t) p
     unfolding queuesBehind
     behind-next p = rw (order-next i l) refl
 
-    module _ (room : at + length (joined (textAt firings) (run .count)) ≤ length out₀) where
-      pub event-room : to + length (eventText (eventIn counts (i + 1) (rows .take) t (net .places))) ≤ length out
+    -- its transition in the table
+    module _ (d : Transition) (inside : t < length (net .table)) (room : at + length (joined (textAt firings) (run .count)) ≤ length out₀) where
+      abbrev fired : Transition
+      fired = getD (net .table) t d
+
+      same : transitionAt net t ≡ fired
+      same = getD-within (net .table) t noTransition d inside
+
+      event-here : getD firings i noEvent ≡ eventIn counts (i + 1) (fired .take) t (net .places)
+      event-here =
+          found-here firings (eventsFrom net (drop (i + 1) order) (queuesAfter net queues t)) i event noEvent firings-next
+          ∙ ap (λ (x : Transition). eventIn counts (i + 1) (x .take) t (net .places)) same
+
+      pub event-room : to + length (eventText (eventIn counts (i + 1) (fired .take) t (net .places))) ≤ length out
       event-room = subst (λ (e : Event). to + length (eventText e) ≤ length out) event-here (joining-room room (s .wrote) l)
 
-      module _ (line : ItemsLine) (counts₁ heads₁ out₁ : List ℕ) (took : TookRow counts (i + 1) (net .places) (rows .take) (16 * t) line counts₁ heads₁)
-          (w : Wrote out to (eventText (eventIn counts (i + 1) (rows .take) t (net .places))) (line .to) out₁) (counts₂ : List ℕ)
-          (given : (p : ℕ) → p < net .places → queueIn counts₂ (suc (i + 1)) p ≡ queueIn counts₁ (i + 1) p ++ (getD (rows .give) (16 * t + p) 0 ∷ [])) where
+      module _ (short : run .count ≤ 64) (line : ItemsLine) (counts₁ heads₁ out₁ : List ℕ)
+          (took : TookAll counts (i + 1) (net .places) (fired .take) line counts₁ heads₁)
+          (w : Wrote out to (eventText (eventIn counts (i + 1) (fired .take) t (net .places))) (line .to) out₁) (counts₂ : List ℕ)
+          (given : (p : ℕ) → p < net .places → queueIn counts₂ (suc (i + 1)) p ≡ queueIn counts₁ (i + 1) p ++ (getD (fired .give) p 0 ∷ [])) where
         next-queues : Agree (net .places) (queueIn counts₂ (i + 1 + 1)) (queuesAfter net queues t)
         next-queues p b =
             ap (λ (k : ℕ). queueIn counts₂ k p) (add-one (i + 1)) ∙ given p b
-            ∙ rw (took .queues p b, row-taken p b, row-given p b) refl
+            ∙ rw (took .queues p b, same) refl
 
         next-emptied : AllEmptied counts₂ heads₁ (i + 1 + 1) (net .places)
         next-emptied p b = let h = took .emptied p b in (omega (arith, h .0), λ k c. slot k (omega (arith, h .0)) ∙ h .1 k c)
@@ -196,7 +194,7 @@ module _ (net : Net) (run : Run) where
             slot k c =
                 sym (queue-at counts₂ (suc (i + 1)) p k (omega arith))
                 ∙ ap (λ (q : List ℕ). getD q k 0) (given p b)
-                ∙ List·getD-append (queueIn counts₁ (i + 1) p) (getD (rows .give) (16 * t + p) 0 ∷ []) 0 k (omega (arith, queue-length counts₁ (i + 1) p))
+                ∙ List·getD-append (queueIn counts₁ (i + 1) p) (getD (fired .give) p 0 ∷ []) 0 k (omega (arith, queue-length counts₁ (i + 1) p))
                 ∙ queue-at counts₁ (i + 1) p k c
 
         next-marked : (p : ℕ) → p < net .places → getD (after net (s .marking) t) p 0 ≡ total (queueIn counts₂ (i + 1 + 1) p)
@@ -212,7 +210,7 @@ module _ (net : Net) (run : Run) where
             rw e
             (getD-set-same linked i (line .newest) false (omega (arith, s .long .2))
             ∙ took .newest
-            ∙ ap (λ (n : ℕ). tookFrom n (itemsOf (takenIn counts (i + 1) (rows .take) (16 * t)) (net .places))) last
+            ∙ ap (λ (n : ℕ). tookFrom n (itemsOf (takenIn counts (i + 1) (fired .take)) (net .places))) last
             ∙ ap (λ (x : Event). tookFrom i (x .from)) (sym event-here)))
             (λ (e : k < i). getD-set-other linked i k (line .newest) false (λ z. omega arith) ∙ s .flags k e)
             (eq-or-lt-of-le (le-of-suc-le-suc (rw add-one at c)))

@@ -42,21 +42,21 @@ pub record Took (counts : List ℕ) (p top n : ℕ) (r : Taking) (after : List �
   pub emptied : Emptied after p (r .head)
   pub newest : r .newest ≡ tookFrom (top - 1) (itemsFrom p 0 (oldest n (queueIn counts top p)))
 
--- what a row of weights takes
-abbrev pub takenIn : List ℕ → ℕ → List ℕ → ℕ → Queues
-takenIn counts top weights row p = oldest (getD weights (row + p) 0) (queueIn counts top p)
+-- what is taken from the places by a weight for each
+abbrev pub takenIn : List ℕ → ℕ → List ℕ → Queues
+takenIn counts top weights p = oldest (getD weights p 0) (queueIn counts top p)
 
--- a firing of t by rows of sixteen weights
+-- a firing of t, which takes these weights
 abbrev pub eventIn : List ℕ → ℕ → List ℕ → ℕ → ℕ → Event
-eventIn counts top weights t places = record { fire = t; from = itemsOf (takenIn counts top weights (16 * t)) places }
+eventIn counts top weights t places = record { fire = t; from = itemsOf (takenIn counts top weights) places }
 
--- what taking a row of weights makes of counts and heads
-pub record TookRow (counts : List ℕ) (top places : ℕ) (weights : List ℕ) (row : ℕ) (r : ItemsLine) (after heads : List ℕ) : Type 0 where
+-- what taking a weight from each place makes of counts and heads
+pub record TookAll (counts : List ℕ) (top places : ℕ) (weights : List ℕ) (r : ItemsLine) (after heads : List ℕ) : Type 0 where
   pub size : length after ≡ length counts
   pub slots : length heads ≡ 16
-  pub queues : (p : ℕ) → p < places → queueIn after top p ≡ without (getD weights (row + p) 0) (queueIn counts top p)
+  pub queues : (p : ℕ) → p < places → queueIn after top p ≡ without (getD weights p 0) (queueIn counts top p)
   pub emptied : AllEmptied after heads top places
-  pub newest : r .newest ≡ tookFrom (top - 1) (itemsOf (takenIn counts top weights row) places)
+  pub newest : r .newest ≡ tookFrom (top - 1) (itemsOf (takenIn counts top weights) places)
 
 -- the numbers i, i + 1, .., n of them, whose flag is down
 unfoldable pub unset : List Bool → ℕ → ℕ → List ℕ

@@ -16,7 +16,7 @@ ghost use Rattle.timing.specs.Windows.{tokens, orderOf};
 ghost use Rattle.causal.specs.Keys.{leftKey, freeKey, noneWord};
 ghost use Rattle.causal.specs.Process.{oldest, itemsOf};
 ghost use Rattle.causal.specs.Print.{itemText, listText, eventText, processText};
-ghost use Rattle.causal.specs.Counts.{comma, queueIn, Emptied, AllEmptied, takenText, Took, takenIn, eventIn, TookRow, unset};
+ghost use Rattle.causal.specs.Counts.{comma, queueIn, Emptied, AllEmptied, takenText, Took, takenIn, eventIn, TookAll, unset};
 
 // What taking from a place came to: where the writer of items stands, the last producer looked at, and whether tokens of the newest producer were taken.
 pub struct Taking {
@@ -136,7 +136,7 @@ fn take_oldest(
     }
 }
 
-// Takes a row of weights from the places, the oldest tokens first, and writes the items as a line behind its key.
+// Takes so many tokens from each place, the oldest tokens first, and writes the items as a line behind its key.
 fn put_items_line(
     out: &mut [u8],
     at: usize,
@@ -144,34 +144,27 @@ fn put_items_line(
     counts: &mut [u32],
     heads: &mut [usize],
     weights: &[u32],
-    row: usize,
     places: usize,
     top: usize,
 ) -> ItemsLine
-    requires { ⌜ (places ≤ 16) × (0 < top) × (top ≤ 65) × (length (now counts) ≡ 1040) × (length (now heads) ≡ 16) × (row + places ≤ length (now weights)) × AllEmptied (now counts) (now heads) top places ⌝ }
-    requires { ⌜ at + length (now key ++ listText (map itemText (itemsOf (takenIn (now counts) top (now weights) row) places))) ≤ length (now out) ⌝ }
-    ensures { λ r. ⌜ TookRow (now (counts .entry)) top places (now (weights .entry)) row r (now (counts .exit)) (now (heads .exit))
-        × Wrote (now (out .entry)) at (now (key .entry) ++ listText (map itemText (itemsOf (takenIn (now (counts .entry)) top (now (weights .entry)) row) places))) (r .to) (now (out .exit)) ⌝ }
+    requires { ⌜ (places ≤ 16) × (0 < top) × (top ≤ 65) × (length (now counts) ≡ 1040) × (length (now heads) ≡ 16) × (places ≤ length (now weights)) × AllEmptied (now counts) (now heads) top places ⌝ }
+    requires { ⌜ at + length (now key ++ listText (map itemText (itemsOf (takenIn (now counts) top (now weights)) places))) ≤ length (now out) ⌝ }
+    ensures { λ r. ⌜ TookAll (now (counts .entry)) top places (now (weights .entry)) r (now (counts .exit)) (now (heads .exit))
+        × Wrote (now (out .entry)) at (now (key .entry) ++ listText (map itemText (itemsOf (takenIn (now (counts .entry)) top (now (weights .entry))) places))) (r .to) (now (out .exit)) ⌝ }
 {
     let begin = text::put_bytes(&mut *out, at, key);
     let mut to = begin;
     let mut newest = false;
     let mut p: usize = 0;
     while p < places {
-        let r = take_oldest(
-            &mut *out,
-            begin,
-            to,
-            &mut *counts,
-            p,
-            heads[p],
-            top,
-            weights[row + p],
-        );
-        to = r.to;
-        heads[p] = r.head;
-        if r.newest {
-            newest = true;
+        let n = weights[p];
+        if n != 0 {
+            let r = take_oldest(&mut *out, begin, to, &mut *counts, p, heads[p], top, n);
+            to = r.to;
+            heads[p] = r.head;
+            if r.newest {
+                newest = true;
+            }
         }
         p += 1;
     }
@@ -181,15 +174,15 @@ fn put_items_line(
     }
 }
 
-// Gives a row of weights to the places: the tokens of a new producer.
-fn give(counts: &mut [u32], weights: &[u32], row: usize, places: usize, producer: usize)
-    requires { ⌜ (places ≤ 16) × (producer < 65) × (length (now counts) ≡ 1040) × (row + places ≤ length (now weights)) ⌝ }
+// Gives so many tokens to each place: the tokens of a new producer.
+fn give(counts: &mut [u32], weights: &[u32], places: usize, producer: usize)
+    requires { ⌜ (places ≤ 16) × (producer < 65) × (length (now counts) ≡ 1040) × (places ≤ length (now weights)) ⌝ }
     ensures { λ r. ⌜ (length (now (counts .exit)) ≡ 1040)
-        × ((p : ℕ) → p < places → queueIn (now (counts .exit)) (suc producer) p ≡ queueIn (now (counts .entry)) producer p ++ (getD (now (weights .entry)) (row + p) 0 ∷ [])) ⌝ }
+        × ((p : ℕ) → p < places → queueIn (now (counts .exit)) (suc producer) p ≡ queueIn (now (counts .entry)) producer p ++ (getD (now (weights .entry)) p 0 ∷ [])) ⌝ }
 {
     let mut p: usize = 0;
     while p < places {
-        counts[65 * p + producer] = weights[row + p];
+        counts[65 * p + producer] = weights[p];
         p += 1;
     }
 }
@@ -223,9 +216,9 @@ fn put_event(
     places: usize,
     top: usize,
 ) -> ItemsLine
-    requires { ⌜ (t < 32) × (places ≤ 16) × (0 < top) × (top ≤ 65) × (length (now counts) ≡ 1040) × (length (now heads) ≡ 16) × (length (now weights) ≡ 512) × AllEmptied (now counts) (now heads) top places ⌝ }
+    requires { ⌜ (t < 32) × (places ≤ 16) × (0 < top) × (top ≤ 65) × (length (now counts) ≡ 1040) × (length (now heads) ≡ 16) × (length (now weights) ≡ 16) × AllEmptied (now counts) (now heads) top places ⌝ }
     requires { ⌜ at + length (eventText (eventIn (now counts) top (now weights) t places)) ≤ length (now out) ⌝ }
-    ensures { λ r. ⌜ TookRow (now (counts .entry)) top places (now (weights .entry)) (16 * t) r (now (counts .exit)) (now (heads .exit))
+    ensures { λ r. ⌜ TookAll (now (counts .entry)) top places (now (weights .entry)) r (now (counts .exit)) (now (heads .exit))
         × Wrote (now (out .entry)) at (eventText (eventIn (now (counts .entry)) top (now (weights .entry)) t places)) (r .to) (now (out .exit)) ⌝ }
 {
     let to = form::put_number_line(&mut *out, at, b"fire=", t as u64);
@@ -236,7 +229,6 @@ fn put_event(
         &mut *counts,
         &mut *heads,
         weights,
-        16 * t,
         places,
         top,
     )
@@ -264,7 +256,6 @@ fn put_left(
         &mut *counts,
         &mut *heads,
         &all,
-        0,
         places,
         top,
     );
@@ -279,19 +270,18 @@ pub fn put_process(out: &mut [u8], at: usize, net: Net, run: Run) -> usize
     ensures { λ r. ⌜ Wrote (now (out .entry)) at (processText net (orderOf (firingsOf run))) r (now (out .exit)) ⌝ }
 {
     let count = run.count;
-    let table = net.table;
     let start = net.start;
-    let rows = firing::rows_of(table, net.transitions);
-    let taken = rows.take;
-    let given = rows.give;
     let mut counts = [0u32; 1040];
     let mut heads = [0usize; 16];
     let mut linked = [false; 64];
-    give(&mut counts, &start, 0, net.places, 0);
+    give(&mut counts, &start, net.places, 0);
     let mut to = at;
     let mut i: usize = 0;
     while i < count {
         let t = run.firings[i].fire as usize;
+        let tr = net.table[t];
+        let taken = tr.take;
+        let given = tr.give;
         let line = put_event(
             &mut *out,
             to,
@@ -305,7 +295,7 @@ pub fn put_process(out: &mut [u8], at: usize, net: Net, run: Run) -> usize
         to = line.to;
         linked[i] = line.newest;
         i += 1;
-        give(&mut counts, &given, 16 * t, net.places, i);
+        give(&mut counts, &given, net.places, i);
     }
     to = put_left(
         &mut *out,

@@ -7,16 +7,13 @@ use Rattle.causal.proofs.give.Statement.{statement}
 use Rattle.causal.proofs.give.Tie as tie
 
 abbrev Inv-loop : tie.InvT-loop
-Inv-loop counts₀ weights row places producer p₀ counts p = Giving counts₀ weights row places producer counts p
+Inv-loop counts₀ weights places producer p₀ counts p = Giving counts₀ weights places producer counts p
 
 abbrev μ-loop : tie.MeasureT-loop
-μ-loop counts₀ weights row places producer p₀ counts p = places - p
+μ-loop counts₀ weights places producer p₀ counts p = places - p
 
 loop-holds : tie.Need-loop-holds Inv-loop μ-loop
 loop-holds c = giving-start (c .pre .2)
-
-add-counts : tie.Need-add-counts Inv-loop μ-loop
-add-counts c = search needs
 
 mul-counts : tie.Need-mul-counts Inv-loop μ-loop
 mul-counts c = search needs
@@ -27,8 +24,8 @@ shared-slice-read-counts c = search needs
 mul-counts-2 : tie.Need-mul-counts-2 Inv-loop μ-loop
 mul-counts-2 c = search needs
 
-add-counts-2 : tie.Need-add-counts-2 Inv-loop μ-loop
-add-counts-2 c = search needs
+add-counts : tie.Need-add-counts Inv-loop μ-loop
+add-counts c = search needs
 
 mul-counts-3 : tie.Need-mul-counts-3 Inv-loop μ-loop
 mul-counts-3 c = search needs
@@ -61,11 +58,10 @@ give-spec =
     Inv-loop
     μ-loop
     loop-holds
-    add-counts
     mul-counts
     shared-slice-read-counts
     mul-counts-2
-    add-counts-2
+    add-counts
     mul-counts-3
     slice-write-counts
     add-p

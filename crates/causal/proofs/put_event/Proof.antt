@@ -1,5 +1,5 @@
 -- The firing's line is written first and the line of its items behind it, where there is room for both.
-use Prim.Native.Nat.{ℕ, _+_, _*_, _≤_}
+use Prim.Native.Nat.{ℕ, _+_, _≤_}
 use native.Mathlib.Omega.{arith}
 use mathlib.Core.Path.{subst}
 use mathlib.Core.Bool.{true}
@@ -23,7 +23,7 @@ fire-line b = fireKey ++ field (b .args .t) true
 abbrev from-line : tie.Start → List ℕ
 from-line b =
     let a = b .args in
-    fromKey ++ listText (map itemText (itemsOf (takenIn (a .counts .now) (a .top) (a .weights .now) (16 * a .t)) (a .places)))
+    fromKey ++ listText (map itemText (itemsOf (takenIn (a .counts .now) (a .top) (a .weights .now)) (a .places)))
 
 room : (b : tie.Start) → b .args .at + length (fire-line b ++ from-line b) ≤ length (b .args .out .now)
 room b =
@@ -41,15 +41,12 @@ put-number-line-requires c κs =
 slice-aggregate-put-items-line : tie.Need-slice-aggregate-put-items-line
 slice-aggregate-put-items-line c = search needs
 
-mul-put-items-line : tie.Need-mul-put-items-line
-mul-put-items-line c = search needs
-
 put-items-line-requires : tie.Need-put-items-line-requires
 put-items-line-requires c κs =
     let w = c .before .before .before .before .before .before in
     let b = w .before .before .before .before .before .before .before in
     let q = b .pre .0 in (
-      (q .1, q .2, q .3, q .4, q .5, omega (arith, q .0, q .1, q .6), q .7),
+      (q .1, q .2, q .3, q .4, q .5, omega (arith, q .1, q .6), q .7),
       room-then (b .args .out .now) (b .args .at) (fire-line b) (from-line b) (room b) (w .put-number-line .result) (w .put-number-line .last .0)
           (w .put-number-line .ensures),
     )
@@ -83,7 +80,6 @@ put-event-spec =
     slice-aggregate-put-number-line
     put-number-line-requires
     slice-aggregate-put-items-line
-    mul-put-items-line
     put-items-line-requires
     same-length
     same-length-2

@@ -1,4 +1,4 @@
--- The loop keeps what was taken of the places passed (`RowTaking`) and the state of the writer of the items (`Listing`).
+-- The loop keeps what was taken of the places passed (`LineTaking`) and the state of the writer of the items (`Listing`). A place of which nothing is taken changes neither.
 use Prim.Native.Nat.{ℕ, _+_, _-_, _≤_}
 use native.Mathlib.Omega.{arith}
 use mathlib.Core.Path.{refl, sym, subst, _∙_}
@@ -15,25 +15,26 @@ use Rattle.causal.specs.Print.{itemText, joinedBy, listText}
 use Rattle.causal.specs.Counts.{takenIn}
 use Rattle.causal.proofs.Listing.{Long, Listing, key-room, line-start, texts-room, end-room, line-done}
 use Rattle.causal.proofs.TakeLoop.{items-long}
-use Rattle.causal.proofs.LineLoop.{textsFrom, texts-all, texts-none, RowTaking, row-start, row-room, row-listed, row-more, row-done}
+use Rattle.causal.proofs.LineLoop.{textsFrom, texts-all, texts-none, LineTaking, taking-start, taking-more, taking-none, taking-done}
+use Rattle.causal.proofs.LineLoop.{place-room, place-listed, none-listed}
 use Rattle.causal.proofs.put_items_line.Statement.{statement}
 use Rattle.causal.proofs.put_items_line.Tie as tie
 
 abbrev Inv-loop : tie.InvT-loop
-Inv-loop out₀ at key counts₀ heads₀ weights row places top begin to₀ newest₀ p₀ out counts heads to newest p =
-    RowTaking counts₀ top places weights row counts heads newest p
-    × Listing begin out₀ begin (map itemText (itemsOf (takenIn counts₀ top weights row) places)) (textsFrom (takenIn counts₀ top weights row) places p) to out
+Inv-loop out₀ at key counts₀ heads₀ weights places top begin to₀ newest₀ p₀ out counts heads to newest p =
+    LineTaking counts₀ top places weights counts heads newest p
+    × Listing begin out₀ begin (map itemText (itemsOf (takenIn counts₀ top weights) places)) (textsFrom (takenIn counts₀ top weights) places p) to out
 
 abbrev μ-loop : tie.MeasureT-loop
-μ-loop out₀ at key counts₀ heads₀ weights row places top begin to₀ newest₀ p₀ out counts heads to newest p =
+μ-loop out₀ at key counts₀ heads₀ weights places top begin to₀ newest₀ p₀ out counts heads to newest p =
     places - p
 
 -- the texts of the line, none of them empty
 abbrev texts-of : tie.Start Inv-loop μ-loop → List (List ℕ)
-texts-of b = let a = b .args in map itemText (itemsOf (takenIn (a .counts .now) (a .top) (a .weights .now) (a .row)) (a .places))
+texts-of b = let a = b .args in map itemText (itemsOf (takenIn (a .counts .now) (a .top) (a .weights .now)) (a .places))
 
 texts-long : (b : tie.Start Inv-loop μ-loop) → Each Long (texts-of b)
-texts-long b = let a = b .args in items-long (itemsOf (takenIn (a .counts .now) (a .top) (a .weights .now) (a .row)) (a .places))
+texts-long b = let a = b .args in items-long (itemsOf (takenIn (a .counts .now) (a .top) (a .weights .now)) (a .places))
 
 room-here : (w : tie.After-put-bytes Inv-loop μ-loop)
     → w .put-bytes .result
@@ -56,13 +57,19 @@ loop-holds c =
     let w = c .before .before in
     let b = w .before .before .before .before .before .before .before in
     let a = b .args in (
-      row-start (a .counts .now) (a .top) (a .places) (a .weights .now) (a .row) (a .heads .now) (b .pre .0 .4) (b .pre .0 .6),
+      taking-start (a .counts .now) (a .top) (a .places) (a .weights .now) (a .heads .now) (b .pre .0 .4) (b .pre .0 .6),
       subst (λ (left : List (List ℕ)). Listing (w .put-bytes .result) (w .put-bytes .last .0) (w .put-bytes .result) (texts-of b) left
           (w .put-bytes .result) (w .put-bytes .last .0))
-          (texts-all (takenIn (a .counts .now) (a .top) (a .weights .now) (a .row)) (a .places))
+          (texts-all (takenIn (a .counts .now) (a .top) (a .weights .now)) (a .places))
           (line-start (a .out .now) (a .at) (a .key .now) (texts-of b) (texts-long b) (b .pre .1) (w .put-bytes .result) (w .put-bytes .last .0)
           (w .put-bytes .ensures)),
     )
+
+mul-n : tie.Need-mul-n Inv-loop μ-loop
+mul-n c = search needs
+
+shared-slice-read-n : tie.Need-shared-slice-read-n Inv-loop μ-loop
+shared-slice-read-n c = search needs
 
 mul-take-oldest : tie.Need-mul-take-oldest Inv-loop μ-loop
 mul-take-oldest c = search needs
@@ -70,18 +77,9 @@ mul-take-oldest c = search needs
 slice-read-take-oldest : tie.Need-slice-read-take-oldest Inv-loop μ-loop
 slice-read-take-oldest c = search needs
 
-add-take-oldest : tie.Need-add-take-oldest Inv-loop μ-loop
-add-take-oldest c = search needs
-
-mul-take-oldest-2 : tie.Need-mul-take-oldest-2 Inv-loop μ-loop
-mul-take-oldest-2 c = search needs
-
-shared-slice-read-take-oldest : tie.Need-shared-slice-read-take-oldest Inv-loop μ-loop
-shared-slice-read-take-oldest c = search needs
-
 take-oldest-requires : tie.Need-take-oldest-requires Inv-loop μ-loop
 take-oldest-requires c κs =
-    let t = c .before .before .before .before in
+    let t = c .before .before .before .before .before in
     let l = t .before in
     let w = l .before .before .before in
     let b = w .before .before .before .before .before .before .before in
@@ -91,7 +89,7 @@ take-oldest-requires c κs =
     let inside = t .loop-test .taken in
     let held = s .0 .emptied (l .loop .p) inside in (
       (omega (arith, s .1 .wrote .end), omega arith, held .0, q .2, s .0 .size ∙ q .3, held .1),
-      row-room (a .counts .now) (a .top) (a .places) (a .weights .now) (a .row) (s .0) (q .2) (q .0) inside (s .1) (room-here w),
+      place-room (a .counts .now) (a .top) (a .places) (a .weights .now) (s .0) (q .2) (q .0) inside (s .1) (room-here w),
     )
 
 mul-heads : tie.Need-mul-heads Inv-loop μ-loop
@@ -108,20 +106,37 @@ loop-less c = search needs
 
 loop-again : tie.Need-loop-again Inv-loop μ-loop
 loop-again c =
-    let k = c .before .before .before .before .before in
-    let t = k .before .before .before .before .before in
+    let t = c .before .before in
     let l = t .before in
     let w = l .before .before .before in
     let b = w .before .before .before .before .before .before .before in
     let a = b .args in
     let q = b .pre .0 in
     let s = l .loop .inv in
-    let inside = t .loop-test .taken in (
-      row-more (a .counts .now) (a .top) (a .places) (a .weights .now) (a .row) (s .0) (q .2) (q .0) inside (k .take-oldest .result)
-          (k .take-oldest .last .1 .1 .1 .0) (k .take-oldest .ensures .0) (c .if1 .newest)
-          (⊎-elim (λ j. rw (j .1, j .0 .taken, or-true) refl) (λ j. rw (j .1, j .0 .left, or-false) refl) (c .if1 .came)),
-      row-listed (a .counts .now) (a .top) (a .places) (a .weights .now) (a .row) (s .0) (q .2) (q .0) inside (s .1) (room-here w) (k .take-oldest .ensures .1),
-    )
+    let inside = t .loop-test .taken in
+    let more = taking-more (a .counts .now) (a .top) (a .places) (a .weights .now) (s .0) (q .2) (q .0) inside in
+    let listed = place-listed (a .counts .now) (a .top) (a .places) (a .weights .now) (s .0) (q .2) (q .0) inside (s .1) (room-here w) in
+    ⊎-elim
+    (λ j.
+    rw (j .10, j .11, j .12, j .13, j .14) (
+      more (j .4 .result) (j .4 .last .1 .1 .1 .0) (j .4 .ensures .0) _ (rw (j .9 .taken, or-true) refl),
+      listed (j .4 .result .to) (j .4 .last .0) (j .4 .ensures .1),
+    ))
+    (⊎-elim
+    (λ j.
+    rw (j .10, j .11, j .12, j .13, j .14) (
+      more (j .4 .result) (j .4 .last .1 .1 .1 .0) (j .4 .ensures .0) _ (rw (j .9 .left, or-false) refl),
+      listed (j .4 .result .to) (j .4 .last .0) (j .4 .ensures .1),
+    ))
+    (λ j.
+    rw (j .1, j .2, j .3, j .4, j .5) (
+      taking-none (a .counts .now) (a .top) (a .places) (a .weights .now) (s .0) (q .2) (q .0) inside (j .0 .left),
+      subst (λ (left : List (List ℕ)). Listing (w .put-bytes .result) (w .put-bytes .last .0) (w .put-bytes .result) (texts-of b) left
+          (l .loop .to) (l .loop .out))
+          (none-listed (a .counts .now) (a .top) (a .places) (a .weights .now) (s .0) (q .2) (q .0) inside (j .0 .left))
+          (s .1),
+    )))
+    (c .if1 .came)
 
 end-list-requires : tie.Need-end-list-requires Inv-loop μ-loop
 end-list-requires c κs =
@@ -131,8 +146,8 @@ end-list-requires c κs =
     let a = b .args in
     end-room (a .out .now) (a .at) (a .key .now) (texts-of b) (texts-long b) (b .pre .1) (w .put-bytes .result) (w .put-bytes .last .0)
     (w .put-bytes .ensures) (l .loop .to) (l .loop .out)
-    (textsFrom (takenIn (a .counts .now) (a .top) (a .weights .now) (a .row)) (a .places) (l .loop .p)) (l .loop .inv .1)
-    (texts-none (takenIn (a .counts .now) (a .top) (a .weights .now) (a .row)) (a .places) (l .loop .p) (c .before .loop-test .left))
+    (textsFrom (takenIn (a .counts .now) (a .top) (a .weights .now)) (a .places) (l .loop .p)) (l .loop .inv .1)
+    (texts-none (takenIn (a .counts .now) (a .top) (a .weights .now)) (a .places) (l .loop .p) (c .before .loop-test .left))
 
 same-length-2 : tie.Need-same-length-2 Inv-loop μ-loop
 same-length-2 c = c .before .before .before .before .before .loop .inv .0 .size
@@ -152,11 +167,11 @@ returns c =
     let a = b .args in
     let s = l .loop .inv in
     let all = e .before .before .loop-test .left in (
-      row-done (a .counts .now) (a .top) (a .places) (a .weights .now) (a .row) (s .0) all (e .end-list .result),
+      taking-done (a .counts .now) (a .top) (a .places) (a .weights .now) (s .0) all (e .end-list .result),
       line-done (a .out .now) (a .at) (a .key .now) (texts-of b) (texts-long b) (b .pre .1) (w .put-bytes .result) (w .put-bytes .last .0)
           (w .put-bytes .ensures) (l .loop .to) (l .loop .out)
-          (textsFrom (takenIn (a .counts .now) (a .top) (a .weights .now) (a .row)) (a .places) (l .loop .p)) (s .1)
-          (texts-none (takenIn (a .counts .now) (a .top) (a .weights .now) (a .row)) (a .places) (l .loop .p) all)
+          (textsFrom (takenIn (a .counts .now) (a .top) (a .weights .now)) (a .places) (l .loop .p)) (s .1)
+          (texts-none (takenIn (a .counts .now) (a .top) (a .weights .now)) (a .places) (l .loop .p) all)
           (e .end-list .result) (e .end-list .last .0) (e .end-list .ensures),
     )
 
@@ -175,11 +190,10 @@ put-items-line-spec =
     μ-loop
     put-bytes-requires
     loop-holds
+    mul-n
+    shared-slice-read-n
     mul-take-oldest
     slice-read-take-oldest
-    add-take-oldest
-    mul-take-oldest-2
-    shared-slice-read-take-oldest
     take-oldest-requires
     mul-heads
     slice-write-heads

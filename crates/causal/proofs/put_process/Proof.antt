@@ -1,51 +1,58 @@
 -- The loop keeps the state of the process (`Processing`): what is left of it comes from the slots. The last two lines are those of the definition.
-use Prim.Native.Nat.{_-_, _<_}
+use Prim.Native.Nat.{ℕ, _-_, _≤_, _<_}
 use native.Mathlib.Omega.{arith}
-use mathlib.Core.Path.{_≡_, refl, sym, _∙_}
+use mathlib.Core.Path.{_≡_, refl, sym, subst, _∙_}
 use lib.ListN.{length, getD, replicate}
 use borrow.Author.Needs.{needs}
 use Rattle.laws.specs.Mapped.{length-mapped}
 use Rattle.laws.specs.Splice.{wrote-length}
+use Rattle.net.specs.declared.Transition.{Transition}
 use Rattle.run.specs.Run.{noFiring}
 use Rattle.firing.specs.Replay.{firingsOf}
 use Rattle.timing.specs.Windows.{orderOf}
 use Rattle.causal.specs.Print.{processText}
+use Rattle.causal.proofs.Elements.{element-owned}
 use Rattle.causal.proofs.ProcessLoop.{Processing, firings-room, processing-start, fire-listed, event-room, processing-more}
 use Rattle.causal.proofs.ProcessLoop.{end-emptied, end-all, left-room, free-room, processing-done}
 use Rattle.causal.proofs.put_process.Statement.{statement}
 use Rattle.causal.proofs.put_process.Tie as tie
 
 abbrev Inv-loop : tie.InvT-loop
-Inv-loop out₀ at net run count taken given counts₀ heads₀ linked₀ to₀ i₀ out counts heads linked to i =
+Inv-loop out₀ at net run count counts₀ heads₀ linked₀ to₀ i₀ out counts heads linked to i =
     Processing net run out₀ at counts heads linked out to i
 
 abbrev μ-loop : tie.MeasureT-loop
-μ-loop out₀ at net run count taken given counts₀ heads₀ linked₀ to₀ i₀ out counts heads linked to i =
+μ-loop out₀ at net run count counts₀ heads₀ linked₀ to₀ i₀ out counts heads linked to i =
     count - i
 
-start-long : (b : tie.Start Inv-loop μ-loop) → length (b .args .net .start) ≡ 16
+start-long : (b : tie.Start Inv-loop μ-loop) → length (b .args .t3 .start) ≡ 16
 start-long b = search (needs, length-mapped)
 
-rows-long : (w : tie.After-rows-of Inv-loop μ-loop) → (length (w .rows-of .result .take) ≡ 512) × (length (w .rows-of .result .give) ≡ 512)
-rows-long w = search needs
+table-long : (b : tie.Start Inv-loop μ-loop) → length (b .args .t3 .table) ≡ 32
+table-long b = search (needs, length-mapped)
 
 -- a firing is of a transition of the net
-listed : (n : tie.In-loop Inv-loop μ-loop)
-    → let l = n .before in
-    getD (l .before .before .before .before .before .before .before .before .before .before .before .args .t4 .firings) (l .loop .i) noFiring .fire < 32
+abbrev fire-at : tie.In-loop Inv-loop μ-loop → ℕ
+fire-at n = let l = n .before in getD (l .before .before .before .before .before .before .before .args .t4 .firings) (l .loop .i) noFiring .fire
+
+listed : (n : tie.In-loop Inv-loop μ-loop) → fire-at n < 32
 listed n =
     let l = n .before in
-    let w = l .before .before .before .before .before .before .before in
-    let b = w .before .before .before .before in
-    omega (
-      arith,
-      fire-listed (b .args .net) (b .args .t4) (w .rows-of .result) (w .rows-of .ensures) (b .pre .0 .0) (b .pre .0 .2) (l .loop .inv)
-          (n .loop-test .taken),
-      b .pre .0 .1,
-    )
+    let b = l .before .before .before .before .before .before .before in
+    omega (arith, fire-listed (b .args .t3) (b .args .t4) (l .loop .inv) (n .loop-test .taken), b .pre .0 .1)
 
-rows-of-requires : tie.Need-rows-of-requires Inv-loop μ-loop
-rows-of-requires c κs = search needs
+in-table : (n : tie.In-loop Inv-loop μ-loop) → fire-at n < length (n .before .before .before .before .before .before .before .before .args .t3 .table)
+in-table n = omega (arith, listed n, table-long (n .before .before .before .before .before .before .before .before))
+
+-- its transition, which is owned with the table, has sixteen weights of either kind
+weights-long : (n : tie.In-loop Inv-loop μ-loop) (d : Transition)
+    → let tr = getD (n .before .before .before .before .before .before .before .before .args .t3 .table) (fire-at n) d in
+    (length (tr .take) ≡ 16) × (length (tr .give) ≡ 16)
+weights-long n d =
+    let b = n .before .before .before .before .before .before .before .before in
+    let table = b .good .1 .1 .0 .1 .1 .1 .1 .1 .0 in
+    let tr = element-owned _ _ (b .args .t3 .table) _ (table .1 .1) (fire-at n) d (in-table n) in
+    search (needs, tr)
 
 slice-aggregate-give : tie.Need-slice-aggregate-give Inv-loop μ-loop
 slice-aggregate-give c = search needs
@@ -55,14 +62,14 @@ slice-aggregate-give-2 c = search needs
 
 give-requires : tie.Need-give-requires Inv-loop μ-loop
 give-requires c κs =
-    let b = c .before .before .before .before .before .before .before .before in
+    let b = c .before .before .before .before in
     (b .pre .0 .0, omega arith, refl, omega (arith, b .pre .0 .0, start-long b))
 
 loop-holds : tie.Need-loop-holds Inv-loop μ-loop
 loop-holds c =
     let g = c .before in
-    let b = g .before .before .before .before .before .before .before .before .before in
-    processing-start (b .args .net) (b .args .t4) (g .give .last .0) (replicate 1040 0) (g .give .ensures .1) (g .give .ensures .0) (b .pre .0 .3)
+    let b = g .before .before .before .before .before in
+    processing-start (b .args .t3) (b .args .t4) (g .give .last .0) (replicate 1040 0) (g .give .ensures .1) (g .give .ensures .0) (b .pre .0 .3)
     (b .pre .0 .4) (b .pre .0 .0)
     (b .args .out .now) (b .args .at)
 
@@ -75,6 +82,12 @@ element-copy-out-t c = search needs
 cast-t : tie.Need-cast-t Inv-loop μ-loop
 cast-t c = omega (arith, listed c)
 
+mul-tr : tie.Need-mul-tr Inv-loop μ-loop
+mul-tr c = omega (arith, listed c)
+
+element-copy-out-tr : tie.Need-element-copy-out-tr Inv-loop μ-loop
+element-copy-out-tr c = listed c
+
 slice-aggregate-put-event : tie.Need-slice-aggregate-put-event Inv-loop μ-loop
 slice-aggregate-put-event c = search needs
 
@@ -82,21 +95,20 @@ slice-aggregate-put-event-2 : tie.Need-slice-aggregate-put-event-2 Inv-loop μ-l
 slice-aggregate-put-event-2 c = search needs
 
 slice-aggregate-put-event-3 : tie.Need-slice-aggregate-put-event-3 Inv-loop μ-loop
-slice-aggregate-put-event-3 c = search needs
+slice-aggregate-put-event-3 c = sym (weights-long (c .before .before .before .before .before .before .before) _ .0)
 
 add-put-event : tie.Need-add-put-event Inv-loop μ-loop
 add-put-event c = search needs
 
 put-event-requires : tie.Need-put-event-requires Inv-loop μ-loop
 put-event-requires c κs =
-    let n = c .before .before .before .before in
+    let n = c .before .before .before .before .before .before .before in
     let l = n .before in
-    let w = l .before .before .before .before .before .before .before in
-    let b = w .before .before .before .before in
+    let b = l .before .before .before .before .before .before .before in
     let s = l .loop .inv in (
-      (listed n, b .pre .0 .0, omega arith, omega (arith, n .loop-test .taken, b .pre .0 .2), s .long .0, s .long .1, rows-long w .0, s .emptied),
-      event-room (b .args .net) (b .args .t4) (w .rows-of .result) (w .rows-of .ensures) (b .pre .0 .0) (b .pre .0 .2) s (n .loop-test .taken)
-          (firings-room (b .args .net) (b .args .t4) (b .args .out .now) (b .args .at) (b .pre .1)),
+      (listed n, b .pre .0 .0, omega arith, omega (arith, n .loop-test .taken, b .pre .0 .2), s .long .0, s .long .1, weights-long n _ .0, s .emptied),
+      event-room (b .args .t3) (b .args .t4) s (n .loop-test .taken) _ (in-table n)
+          (firings-room (b .args .t3) (b .args .t4) (b .args .out .now) (b .args .at) (b .pre .1)),
     )
 
 array-write-linked : tie.Need-array-write-linked Inv-loop μ-loop
@@ -109,24 +121,18 @@ slice-aggregate-give-3 : tie.Need-slice-aggregate-give-3 Inv-loop μ-loop
 slice-aggregate-give-3 c = search needs
 
 slice-aggregate-give-4 : tie.Need-slice-aggregate-give-4 Inv-loop μ-loop
-slice-aggregate-give-4 c =
-    let l = c .before .before .before .before .before .before .before .before .before .before .before .before in
-    sym (rows-long (l .before .before .before .before .before .before .before) .1)
-
-mul-give : tie.Need-mul-give Inv-loop μ-loop
-mul-give c = omega (arith, listed (c .before .before .before .before .before .before .before .before .before .before .before))
+slice-aggregate-give-4 c = sym (weights-long (c .before .before .before .before .before .before .before .before .before .before .before .before .before .before) _ .1)
 
 give-requires-2 : tie.Need-give-requires-2 Inv-loop μ-loop
 give-requires-2 c κs =
     let e = c .before .before .before .before .before .before in
-    let n = e .before .before .before .before .before in
+    let n = e .before .before .before .before .before .before .before .before in
     let l = n .before in
-    let w = l .before .before .before .before .before .before .before in
-    let b = w .before .before .before .before in (
+    let b = l .before .before .before .before .before .before .before in (
       b .pre .0 .0,
       omega (arith, n .loop-test .taken, b .pre .0 .2),
       e .put-event .ensures .0 .size ∙ l .loop .inv .long .0,
-      omega (arith, listed n, b .pre .0 .0, rows-long w .1),
+      subst (λ (k : ℕ). b .args .t3 .places ≤ k) (sym (weights-long n _ .1)) (b .pre .0 .0),
     )
 
 loop-less : tie.Need-loop-less Inv-loop μ-loop
@@ -136,12 +142,11 @@ loop-again : tie.Need-loop-again Inv-loop μ-loop
 loop-again c =
     let g = c .before in
     let e = g .before .before .before .before .before .before .before in
-    let n = e .before .before .before .before .before in
+    let n = e .before .before .before .before .before .before .before .before in
     let l = n .before in
-    let w = l .before .before .before .before .before .before .before in
-    let b = w .before .before .before .before in
-    processing-more (b .args .net) (b .args .t4) (w .rows-of .result) (w .rows-of .ensures) (b .pre .0 .0) (b .pre .0 .2) (l .loop .inv) (n .loop-test .taken)
-    (firings-room (b .args .net) (b .args .t4) (b .args .out .now) (b .args .at) (b .pre .1)) (e .put-event .result) (e .put-event .last .1 .1 .1 .0)
+    let b = l .before .before .before .before .before .before .before in
+    processing-more (b .args .t3) (b .args .t4) (l .loop .inv) (n .loop-test .taken) _ (in-table n)
+    (firings-room (b .args .t3) (b .args .t4) (b .args .out .now) (b .args .at) (b .pre .1)) (b .pre .0 .2) (e .put-event .result) (e .put-event .last .1 .1 .1 .0)
     (e .put-event .last .1 .1 .1 .1 .0) (e .put-event .last .0) (e .put-event .ensures .0)
     (e .put-event .ensures .1) (g .give2 .last .0) (g .give2 .ensures .1) (g .give2 .ensures .0)
 
@@ -158,11 +163,11 @@ put-left-requires : tie.Need-put-left-requires Inv-loop μ-loop
 put-left-requires c κs =
     let n = c .before .before .before in
     let l = n .before in
-    let b = l .before .before .before .before .before .before .before .before .before .before .before in
+    let b = l .before .before .before .before .before .before .before in
     let s = l .loop .inv in
     let all = n .loop-test .left in (
-      (b .pre .0 .0, omega arith, omega (arith, b .pre .0 .2), s .long .0, s .long .1, end-emptied (b .args .net) (b .args .t4) s all),
-      (end-all (b .args .net) (b .args .t4) s all, left-room (b .args .net) (b .args .t4) s all (b .pre .1)),
+      (b .pre .0 .0, omega arith, omega (arith, b .pre .0 .2), s .long .0, s .long .1, end-emptied (b .args .t3) (b .args .t4) s all),
+      (end-all (b .args .t3) (b .args .t4) s all, left-room (b .args .t3) (b .args .t4) s all (b .pre .1)),
     )
 
 slice-aggregate-put-free : tie.Need-slice-aggregate-put-free Inv-loop μ-loop
@@ -173,11 +178,11 @@ put-free-requires c κs =
     let f = c .before .before .before .before .before .before in
     let n = f .before .before .before .before in
     let l = n .before in
-    let b = l .before .before .before .before .before .before .before .before .before .before .before in
+    let b = l .before .before .before .before .before .before .before in
     let s = l .loop .inv in (
       b .pre .0 .2,
       omega (arith, b .pre .0 .2, s .long .2),
-      free-room (b .args .net) (b .args .t4) s (n .loop-test .left) (b .pre .1) (f .put-left .result) (f .put-left .last .0) (f .put-left .ensures),
+      free-room (b .args .t3) (b .args .t4) s (n .loop-test .left) (b .pre .1) (f .put-left .result) (f .put-left .last .0) (f .put-left .ensures),
     )
 
 returns : tie.Need-returns Inv-loop μ-loop
@@ -186,8 +191,8 @@ returns c =
     let f = g .before .before .before .before .before .before .before in
     let n = f .before .before .before .before in
     let l = n .before in
-    let b = l .before .before .before .before .before .before .before .before .before .before .before in
-    processing-done (b .args .net) (b .args .t4) (l .loop .inv) (n .loop-test .left) (b .pre .1) (f .put-left .result) (f .put-left .last .0)
+    let b = l .before .before .before .before .before .before .before in
+    processing-done (b .args .t3) (b .args .t4) (l .loop .inv) (n .loop-test .left) (b .pre .1) (f .put-left .result) (f .put-left .last .0)
     (f .put-left .ensures) (g .put-free .result)
     (g .put-free .last .0) (g .put-free .ensures)
 
@@ -196,8 +201,8 @@ same-length c =
     let g = c .before .before in
     let f = g .before .before .before .before .before .before .before in
     let l = f .before .before .before .before .before in
-    let b = l .before .before .before .before .before .before .before .before .before .before .before in
-    wrote-length (b .args .out .now) (b .args .at) (processText (b .args .net) (orderOf (firingsOf (b .args .t4)))) (g .put-free .result)
+    let b = l .before .before .before .before .before .before .before in
+    wrote-length (b .args .out .now) (b .args .at) (processText (b .args .t3) (orderOf (firingsOf (b .args .t4)))) (g .put-free .result)
     (g .put-free .last .0) (b .pre .1)
     (returns c)
 
@@ -207,7 +212,6 @@ put-process-spec =
     (tie.spec
     Inv-loop
     μ-loop
-    rows-of-requires
     slice-aggregate-give
     slice-aggregate-give-2
     give-requires
@@ -215,6 +219,8 @@ put-process-spec =
     mul-t
     element-copy-out-t
     cast-t
+    mul-tr
+    element-copy-out-tr
     slice-aggregate-put-event
     slice-aggregate-put-event-2
     slice-aggregate-put-event-3
@@ -224,7 +230,6 @@ put-process-spec =
     add-i
     slice-aggregate-give-3
     slice-aggregate-give-4
-    mul-give
     give-requires-2
     loop-less
     loop-again
