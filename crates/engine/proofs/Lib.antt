@@ -1,3 +1,4 @@
+pub mod Within
 pub mod Causality
 pub mod End
 pub mod Outcome

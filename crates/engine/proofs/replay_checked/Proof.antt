@@ -1,15 +1,15 @@
 -- A refused firing is answered by its refusal; the end of a run without one fits the buffer, and its bytes are the answer.
 use borrow.Author.Needs.{needs}
 use Rattle.laws.specs.Front.{front-within, front-length}
-use Rattle.cards.proofs.Cards.{run-counts}
 use Rattle.engine.proofs.Outcome.{replay-refused, replay-answered, rest-written}
+use Rattle.engine.proofs.Within.{run-within}
 use Rattle.engine.proofs.replay_checked.Statement.{statement}
 use Rattle.engine.proofs.replay_checked.Tie as tie
 
 play-run-requires : tie.Need-play-run-requires
 play-run-requires c κs =
     let s = c .before in
-    run-counts (s .args .net) (s .args .run) (s .pre)
+    run-within (s .args .net) (s .args .run) (s .pre)
 
 enum-known-c : tie.Need-enum-known-c
 enum-known-c c = search needs

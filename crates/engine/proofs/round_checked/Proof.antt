@@ -1,14 +1,14 @@
 -- A refused firing is answered by its refusal; the card of the rounded run fits the buffer, and its bytes are the answer.
 use borrow.Author.Needs.{needs}
-use Rattle.cards.proofs.Cards.{run-counts}
 use Rattle.engine.proofs.Rounding.{can-round, rounded-fits, round-refused, round-answered}
+use Rattle.engine.proofs.Within.{run-within}
 use Rattle.engine.proofs.round_checked.Statement.{statement}
 use Rattle.engine.proofs.round_checked.Tie as tie
 
 play-run-requires : tie.Need-play-run-requires
 play-run-requires c κs =
     let s = c .before in
-    run-counts (s .args .net) (s .args .run) (s .pre)
+    run-within (s .args .net) (s .args .run) (s .pre)
 
 enum-known-c : tie.Need-enum-known-c
 enum-known-c c = search needs

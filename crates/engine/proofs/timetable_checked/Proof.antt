@@ -2,15 +2,15 @@
 -- answer.
 use mathlib.Core.Path.{sym}
 use borrow.Author.Needs.{needs}
-use Rattle.cards.proofs.Cards.{order-counts}
 use Rattle.engine.proofs.Scheduling.{timetable-refused, windows-listed, Swept, untimable-answered, instants-fit, timetable-fits, timetable-answered}
+use Rattle.engine.proofs.Within.{order-within}
 use Rattle.engine.proofs.timetable_checked.Statement.{statement}
 use Rattle.engine.proofs.timetable_checked.Tie as tie
 
 collect-requires : tie.Need-collect-requires
 collect-requires c κs =
     let s = c .before in
-    order-counts (s .args .net) (s .args .order) (s .pre)
+    order-within (s .args .net) (s .args .order) (s .pre)
 
 enum-known-c : tie.Need-enum-known-c
 enum-known-c c = search needs
