@@ -1,18 +1,18 @@
--- What the loops over places and transitions keep: a scan that is left at the first failure has found no failure so far, a scan of all has the answer of the
--- numbers passed, and of an array that is filled slot by slot the slots passed hold the new values and the others the old ones.
+-- What the loops over places and transitions keep: a scan that is left at the first failure has found no failure so far, and of an array that is filled slot
+-- by slot the slots passed hold the new values and the others the old ones.
 use Prim.Native.Nat.{ℕ, _+_, _-_, _≤_, _<_}
 use native.Mathlib.Nat.{not-suc-le-zero, eq-or-lt-of-le, le-of-suc-le-suc}
 use native.Mathlib.Numerals.{add-one}
 use native.Mathlib.Omega.{arith}
 use mathlib.Core.Path.{_≡_, refl, sym, _∙_}
-use mathlib.Core.Bool.{Bool, true, false}
+use mathlib.Core.Bool.{Bool, true}
 use mathlib.Core.Logic.{⊎-elim}
 use mathlib.Core.List.{List}
 use lib.Dec.{leb}
 use lib.ListN.{length, getD, set, length-set}
 use lib.Seq.{getD-set-same, getD-set-other}
 use borrow.Author.Tests.{leb-true}
-use Rattle.laws.specs.All.{allBelow, all-more, all-fails, all-last, all-at}
+use Rattle.laws.specs.All.{allBelow, all-more, all-at}
 use Rattle.laws.specs.Slots.{firstOf}
 use Rattle.laws.specs.Tabled.{tabled, first-tabled}
 use Rattle.firing.specs.Rows.{Stored, enoughIn, limitIn}
@@ -33,25 +33,6 @@ module _ {f : ℕ → Bool} {n : ℕ} {ok : Bool} {p : ℕ} (s : Scanned f n ok 
 
   pub scan-done : n ≤ p → ok ≡ allBelow f n
   scan-done l = let e : p ≡ n = omega (arith, s .within) in s .so-far ∙ sym (rw e at (s .passed))
-
--- ---- a scan of all
-pub record Asked (f : ℕ → Bool) (n : ℕ) (ok : Bool) (p : ℕ) : Type 0 where
-  pub within : p ≤ n
-  pub so-far : ok ≡ allBelow f p
-
-pub asked-start : (f : ℕ → Bool) (n : ℕ) → Asked f n true 0
-unfolding allBelow
-asked-start f n = record { within = omega arith; so-far = refl }
-
-module _ {f : ℕ → Bool} {n : ℕ} {ok : Bool} {p : ℕ} (s : Asked f n ok p) (l : p < n) where
-  pub asked-fails : f p ≡ false → Asked f n false (p + 1)
-  asked-fails e = record { within = omega arith; so-far = sym (all-fails f p (p + 1) e (omega arith)) }
-
-  pub asked-holds : f p ≡ true → Asked f n ok (p + 1)
-  asked-holds e = record { within = omega arith; so-far = s .so-far ∙ sym (rw add-one (all-last f p e)) }
-
-pub asked-done : {f : ℕ → Bool} {n : ℕ} {ok : Bool} {p : ℕ} → Asked f n ok p → n ≤ p → ok ≡ allBelow f n
-asked-done {f} {n} {ok} {p} s l = let e : p ≡ n = omega (arith, s .within) in rw e at (s .so-far)
 
 -- ---- the tests of one place
 module _ (take : List ℕ) (row : ℕ) (m : List ℕ) where

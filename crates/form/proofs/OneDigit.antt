@@ -2,9 +2,8 @@
 -- between those of sixteen zeros and of sixteen nines is a digit at an even place, and the separator at an odd one, where the two texts agree.
 use Prim.Native.Nat.{ℕ, zero, suc, _+_, _-_, _*_, _≤_, _<_}
 use native.Mathlib.Nat.{add-zero, le-antisymm, le-of-suc-le-suc, not-suc-le-zero}
-use native.Mathlib.Numerals.{add-one}
 use native.Mathlib.Omega.{arith}
-use mathlib.Core.Bool.{Bool, true, false, _&&_, and-eq-true-iff}
+use mathlib.Core.Bool.{true, false, _&&_, and-eq-true-iff}
 use mathlib.Core.List.{List, [], _∷_}
 use mathlib.Core.Path.{_≡_, refl, sym, ap, _∙_}
 use lib.Dec.{leb, eqb, lit<}
@@ -12,7 +11,7 @@ use lib.ListN.{length, getD, set, drop, replicate, length-replicate}
 use lib.Seq.{getD-set-same, getD-set-other}
 use borrow.Author.Count.{below-more}
 use borrow.Author.Tests.{leb-true, le-leb, lt-leb, eq-eqb}
-use Rattle.laws.specs.All.{allBelow, all-last, all-fails, all-at}
+use Rattle.laws.specs.All.{allBelow, all-at}
 use Rattle.laws.specs.Slots.{padTo, first-whole}
 use Rattle.laws.specs.Tabled.{tabled, first-tabled}
 use Rattle.text.specs.declared.NumberRead.the-variants.{Value}
@@ -49,14 +48,6 @@ module _ (d : ℕ) (h : d < 10) where
       rw (text-next k, e, e′) (text-separator k i (le-of-suc-le-suc l))
 
 -- ---- the test
--- what was found of the bytes passed, with one byte more
-module _ (f : ℕ → Bool) (i : ℕ) (ok : Bool) where
-  pub tested-fails : f i ≡ false → ok ≡ false → ok ≡ allBelow f (i + 1)
-  tested-fails h e = e ∙ sym (all-fails f i (i + 1) h (omega arith))
-
-  pub tested-more : f i ≡ true → ok ≡ allBelow f i → ok ≡ allBelow f (i + 1)
-  tested-more h e = e ∙ rw add-one (sym (all-last f i h))
-
 module _ (s : List ℕ) (at : ℕ) where
   pub short-none : length s < at + 32 → false ≡ shortAt s at
   unfolding shortAt

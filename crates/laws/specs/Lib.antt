@@ -1,4 +1,5 @@
 pub mod All
+pub mod Asked
 pub mod Div
 pub mod Each
 pub mod EachAt

@@ -5,7 +5,7 @@ use mathlib.Core.Bool.{false, not, Bool·not-not}
 use mathlib.Core.Logic.{⊎-elim}
 use lib.ListN.{getD}
 use borrow.Author.Needs.{needs}
-use Rattle.firing.proofs.Scan.{Asked, asked-start, asked-fails, asked-holds, asked-done}
+use Rattle.laws.specs.Asked.{Asked, asked-start, asked-fails, asked-holds, asked-done}
 use Rattle.firing.proofs.any_short.Statement.{statement}
 use Rattle.firing.proofs.any_short.Tie as tie
 

@@ -4,7 +4,8 @@ use mathlib.Core.Logic.{⊎-elim}
 use borrow.Author.Tests.{le-leb, lt-leb}
 use borrow.Author.Needs.{needs}
 use Rattle.firing.specs.Rows.{enoughIn}
-use Rattle.firing.proofs.Scan.{Asked, asked-start, asked-fails, asked-holds, asked-done, hasEnough}
+use Rattle.laws.specs.Asked.{Asked, asked-start, asked-fails, asked-holds, asked-done}
+use Rattle.firing.proofs.Scan.{hasEnough}
 use Rattle.firing.proofs.covered.Statement.{statement}
 use Rattle.firing.proofs.covered.Tie as tie
 

@@ -5,7 +5,8 @@ use mathlib.Core.Logic.{⊎-elim}
 use borrow.Author.Tests.{le-leb, lt-leb}
 use borrow.Author.Needs.{needs}
 use Rattle.firing.specs.Rows.{limitIn}
-use Rattle.firing.proofs.Scan.{Asked, asked-start, asked-fails, asked-holds, asked-done, enough-at, holds, keepsLimit}
+use Rattle.laws.specs.Asked.{Asked, asked-start, asked-fails, asked-holds, asked-done}
+use Rattle.firing.proofs.Scan.{enough-at, holds, keepsLimit}
 use Rattle.firing.proofs.within_limit.Statement.{statement}
 use Rattle.firing.proofs.within_limit.Tie as tie
 

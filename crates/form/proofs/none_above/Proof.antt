@@ -1,25 +1,21 @@
 -- What was found so far is the test of the bytes passed; a turn adds the comparison of one byte.
-use Prim.Native.Nat.{_-_, _≤_}
-use native.Mathlib.Omega.{arith}
+use Prim.Native.Nat.{_-_}
 use mathlib.Core.Logic.{⊎-elim}
-use mathlib.Core.Path.{_≡_, refl, _∙_}
 use borrow.Author.Needs.{needs}
 use borrow.Author.Tests.{le-leb, lt-leb}
-use Rattle.laws.specs.All.{allBelow}
+use Rattle.laws.specs.Asked.{Asked, asked-start, asked-fails, asked-holds, asked-done}
 use Rattle.form.specs.Code.{notAbove}
-use Rattle.form.proofs.OneDigit.{tested-fails, tested-more}
 use Rattle.form.proofs.none_above.Statement.{statement}
 use Rattle.form.proofs.none_above.Tie as tie
 
 abbrev Inv-loop : tie.InvT-loop
-Inv-loop s at most ok₀ i₀ ok i = (i ≤ 32) × (ok ≡ allBelow (notAbove s at most) i)
+Inv-loop s at most ok₀ i₀ ok i = Asked (notAbove s at most) 32 ok i
 
 abbrev μ-loop : tie.MeasureT-loop
 μ-loop s at most ok₀ i₀ ok i = 32 - i
 
 loop-holds : tie.Need-loop-holds Inv-loop μ-loop
-unfolding allBelow
-loop-holds c = (omega arith, refl)
+loop-holds c = asked-start (notAbove (c .args .s .now) (c .args .at) (c .args .most .now)) 32
 
 shared-slice-read-if1 : tie.Need-shared-slice-read-if1 Inv-loop μ-loop
 shared-slice-read-if1 c = search needs
@@ -38,20 +34,15 @@ loop-less c = search needs
 
 loop-again : tie.Need-loop-again Inv-loop μ-loop
 loop-again c =
-    let a = c .before .before .before .before .before .args in
-    let l = c .before .before .before .before .loop in
-    let f = notAbove (a .s .now) (a .at) (a .most .now) in (
-      search needs,
-      ⊎-elim
-          (λ w. tested-fails f (l .i) _ (lt-leb _ _ (w .0 .taken)) (w .1))
-          (λ w. tested-more f (l .i) _ (le-leb _ _ (w .0 .left)) (w .1 ∙ l .inv .1))
-          (c .if1 .came),
-    )
+    let b = c .before .before .before .before in
+    let t = c .before .before .before .loop-test .taken in
+    ⊎-elim
+    (λ w. rw (w .1) (asked-fails (b .loop .inv) t (lt-leb _ _ (w .0 .taken))))
+    (λ w. rw (w .1) (asked-holds (b .loop .inv) t (le-leb _ _ (w .0 .left))))
+    (c .if1 .came)
 
 returns : tie.Need-returns Inv-loop μ-loop
-returns c =
-    let e : c .before .loop .i ≡ 32 = omega arith in
-    rw e at (c .before .loop .inv .1)
+returns c = asked-done (c .before .loop .inv) (c .loop-test .left)
 
 pub none-above-spec : {M : Type 1} → statement M
 none-above-spec =
