@@ -1,9 +1,11 @@
 // The bytes of a card: keys, words and decimal numbers, compared or read at a position and written to a position.
 ghost use mathlib.Core.Path.{_≡_};
-ghost use Prim.Native.Nat.{_+_, _≤_};
+ghost use Prim.Native.Nat.{_+_, _^_, _≤_, _<_};
+ghost use mathlib.Core.Bool.{cond};
 ghost use mathlib.Core.List.{[], _∷_};
 ghost use lib.ListN.{length, drop};
 ghost use Rattle.laws.specs.Splice.{Wrote};
+ghost use Rattle.text.specs.declared.NumberRead.the-variants.{Value, NoNumber};
 ghost use Rattle.text.specs.Key.{beginsWith};
 ghost use Rattle.text.specs.Number.{classOf, fieldAt, separator};
 ghost use Rattle.text.specs.Decimal.{decimal, field};
@@ -40,38 +42,49 @@ pub fn field_at(s: &[u8], at: usize, last: bool) -> NumberRead
     if s.len() <= at {
         return NumberRead::NoNumber;
     }
-    let first = s[at];
-    if first < 48 {
+    let c = class_of(s[at]);
+    let ByteClass::Digit(first) = c else {
         return NumberRead::NoNumber;
-    }
-    if 57 < first {
-        return NumberRead::NoNumber;
-    }
-    let end = separator_of(last);
-    let mut v = (first - 48) as u32;
+    };
+    let mut v = first as u32;
     let mut i: usize = at + 1;
     while i < s.len() {
-        let b = s[i];
-        if b == end {
-            return NumberRead::Value {
-                value: v,
-                next: i + 1,
-            };
+        let c = class_of(s[i]);
+        match c {
+            ByteClass::Digit(d) => {
+                if first == 0 {
+                    return NumberRead::NoNumber;
+                }
+                if i - at == 9 {
+                    return NumberRead::NoNumber;
+                }
+                v = v * 10 + d as u32;
+                i += 1;
+            }
+            ByteClass::LineEnd => {
+                return ended(last, v, i);
+            }
+            ByteClass::Comma => {
+                return ended(!last, v, i);
+            }
+            ByteClass::Other => {
+                return NumberRead::NoNumber;
+            }
         }
-        if b < 48 {
-            return NumberRead::NoNumber;
-        }
-        if 57 < b {
-            return NumberRead::NoNumber;
-        }
-        if first == 48 {
-            return NumberRead::NoNumber;
-        }
-        if i - at == 9 {
-            return NumberRead::NoNumber;
-        }
-        v = v * 10 + (b - 48) as u32;
-        i += 1;
+    }
+    NumberRead::NoNumber
+}
+
+// A number whose digits end at a position, and whether the right separator stands there.
+fn ended(right: bool, value: u32, at: usize) -> NumberRead
+    requires { ⌜ at + 1 < 2 ^ 64 ⌝ }
+    ensures { λ r. ⌜ r ≡ cond right (Value value (at + 1)) NoNumber ⌝ }
+{
+    if right {
+        return NumberRead::Value {
+            value,
+            next: at + 1,
+        };
     }
     NumberRead::NoNumber
 }
