@@ -11,7 +11,7 @@ use mathlib.Core.List.{List}
 use lib.Dec.{leb, ltb, eqb}
 use lib.ListN.{length, getD, set, replicate, getD-replicate}
 use lib.Seq.{getD-set-same, getD-set-other}
-use borrow.Author.Tests.{leb-true, leb-false, lt-ltb, le-ltb, le-leb, eq-eqb, ne-eqb, eqb-true, eqb-false, not-false}
+use borrow.Author.Tests.{leb-true, leb-false, lt-ltb, le-ltb, le-leb, eq-eqb, ne-eqb, eqb-true, eqb-false, not-true, not-false}
 use Rattle.laws.specs.All.{allBelow, all-at, all-same}
 use Rattle.laws.specs.Slots.{firstOf, getD-first, first-whole}
 use Rattle.laws.specs.Tabled.{entry, length-tabled}
@@ -36,11 +36,7 @@ any-more f n = rw add-one (go (allBelow (λ k. not (f k)) n) (f n))
     go false b = refl
 
 any-none : (f : ℕ → Bool) (n : ℕ) → anyBelow f n ≡ false → (k : ℕ) → k < n → f k ≡ false
-any-none f n e k l = go (f k) (all-at (λ i. not (f i)) k n (not-false (allBelow (λ i. not (f i)) n) e) l)
-  where
-    go : (b : Bool) → not b ≡ true → b ≡ false
-    go true q = sym q
-    go false q = refl
+any-none f n e k l = not-true (f k) (all-at (λ i. not (f i)) k n (not-false (allBelow (λ i. not (f i)) n) e) l)
 
 -- the marks of the places passed
 pub record Marked (give : List ℕ) (row : ℕ) (column looked : List ℕ) (places : ℕ) (old : List Bool) (p : ℕ) (new : List Bool) : Type 0 where
@@ -65,7 +61,10 @@ module _ (give : List ℕ) (row : ℕ) (column looked : List ℕ) (places : ℕ)
         record {
           within = omega arith;
           long = same ∙ s .long;
-          marks = λ u b. h u b ∙ rw (s .marks u b, short-more p u, ne-eqb (getD give (row + p) 0) 0 n) (or-assoc (getD old u false) (shortIn give row column looked p u) (ltb (getD looked p 0) (getD column (32 * p + u) 0)));
+          marks = λ u b.
+              h u b
+              ∙ rw (s .marks u b, short-more p u, ne-eqb (getD give (row + p) 0) 0 n)
+              (or-assoc (getD old u false) (shortIn give row column looked p u) (ltb (getD looked p 0) (getD column (32 * p + u) 0)));
         }
 
     -- a place that is not
@@ -130,7 +129,7 @@ module _ (take m : List ℕ) (short : List Bool) (instant : ℕ) (old : List ℕ
   eights-done first new s e u l = s .filled .passed u (omega arith)
 
 -- ---- the marks are the restarts
--- a test that fails
+-- what is not below is at least as large
 not-lt : (a b : ℕ) → not (ltb a b) ≡ leb b a
 not-lt a b = go (leb b a) refl
   where
@@ -148,7 +147,9 @@ module _ (take give column : List ℕ) (row places : ℕ) (columns : Columns col
     where
       go : (p : ℕ) → p < places → (z : Bool) → eqb (getD give (row + p) 0) 0 ≡ z
           → not (not z && ltb (getD looked p 0) (getD column (32 * p + u) 0)) ≡ leb (getD take (16 * u + p) 0) (getD looked p 0)
-      go p b true z = sym (le-leb (getD take (16 * u + p) 0) (getD looked p 0) (omega (arith, h p b, eqb-true (getD give (row + p) 0) 0 z, enough-at take (16 * u) later places p e b)))
+      go p b true z =
+          let none = eqb-true (getD give (row + p) 0) 0 z in
+          sym (le-leb (getD take (16 * u + p) 0) (getD looked p 0) (omega (arith, h p b, enough-at take (16 * u) later places p e b)))
       go p b false z = rw (columns u p l (omega arith)) (not-lt (getD looked p 0) (getD take (16 * u + p) 0))
 
 -- the two markings in hand when the tokens have moved: the one that the memory word looks at, and the one after the firing

@@ -11,7 +11,8 @@ use Rattle.firing.proofs.move_from_before.Statement.{statement}
 use Rattle.firing.proofs.move_from_before.Tie as tie
 
 abbrev Inv-loop : tie.InvT-loop
-Inv-loop take give row marking₀ looked₀ places p₀ marking looked p = (p ≤ places) × Filled 0 looked₀ (λ k. getD marking₀ k 0) p looked × Filled 0 marking₀ (holds take give row marking₀) p marking
+Inv-loop take give row marking₀ looked₀ places p₀ marking looked p =
+    (p ≤ places) × Filled 0 looked₀ (λ k. getD marking₀ k 0) p looked × Filled 0 marking₀ (holds take give row marking₀) p marking
 
 abbrev μ-loop : tie.MeasureT-loop
 μ-loop take give row marking₀ looked₀ places p₀ marking looked p = places - p

@@ -62,8 +62,9 @@ returns c =
     let l = e .before .before .before in
     let b = l .before in
     let a = b .before .before .before .before .before .before .before .args in
+    let v = b .loop in
     rw (c .state-of .ensures)
-    (playing-unlisted (a .t1) (a .t2) (record { marking = b .loop .marking; since = b .loop .since; now = b .loop .now }) (b .loop .i) (b .loop .inv) (l .loop-test .taken) (e .if1 .taken), not-late b)
+    (playing-unlisted (a .t1) (a .t2) (record { marking = v .marking; since = v .since; now = v .now }) (v .i) (v .inv) (l .loop-test .taken) (e .if1 .taken), not-late b)
 
 cast-instant : tie.Need-cast-instant Inv-loop μ-loop
 cast-instant c = search needs
@@ -97,7 +98,8 @@ sub-judge c =
     let e = c .before .before .before .before .before in
     let b = e .before .before .before .before in
     let s = b .before .before .before .before .before .before .before in
-    clock-past (s .args .t1) (s .args .t2) (record { marking = b .loop .marking; since = b .loop .since; now = b .loop .now }) (b .loop .i) (b .loop .inv) (e .if1 .left)
+    let v = b .loop in
+    clock-past (s .args .t1) (s .args .t2) (record { marking = v .marking; since = v .since; now = v .now }) (v .i) (v .inv) (e .if1 .left)
 
 add-judge : tie.Need-add-judge Inv-loop μ-loop
 add-judge c = search needs
@@ -127,9 +129,10 @@ returns-2 c =
     let b = l .before in
     let w = b .before .before .before .before .before in
     let s = w .before .before in
+    let v = b .loop in
     rw (c .state-of2 .ensures) (
-      playing-refused (s .args .t1) (s .args .t2) (record { marking = b .loop .marking; since = b .loop .since; now = b .loop .now }) (b .loop .i) (b .loop .inv) (w .rows-of .result) (w .rows-of .ensures) (l .loop-test .taken) (e .if1 .left) (s .pre .1) _
-          (j .judge .result) (j .judge .ensures) _ (c .before .enum-told2 .given .1),
+      playing-refused (s .args .t1) (s .args .t2) (record { marking = v .marking; since = v .since; now = v .now }) (v .i) (v .inv) (w .rows-of .result)
+          (w .rows-of .ensures) (l .loop-test .taken) (e .if1 .left) (s .pre .1) _ (j .judge .result) (j .judge .ensures) _ (c .before .enum-told2 .given .1),
       not-late b,
     )
 
@@ -183,8 +186,9 @@ loop-again c =
     let b = l .before in
     let w = b .before .before .before .before .before in
     let s = w .before .before in
-    playing-more (s .args .t1) (s .args .t2) (record { marking = b .loop .marking; since = b .loop .since; now = b .loop .now }) (b .loop .i) (b .loop .inv) (w .rows-of .result) (w .rows-of .ensures) (l .loop-test .taken) (e .if1 .left) (s .pre .1) _
-    (j .judge .result) (j .judge .ensures) (p .enum-told .given .1) (wait-short q) _ (f .fire .ensures)
+    let v = b .loop in
+    playing-more (s .args .t1) (s .args .t2) (record { marking = v .marking; since = v .since; now = v .now }) (v .i) (v .inv) (w .rows-of .result)
+    (w .rows-of .ensures) (l .loop-test .taken) (e .if1 .left) (s .pre .1) _ (j .judge .result) (j .judge .ensures) (p .enum-told .given .1) (wait-short q) _ (f .fire .ensures)
 
 state-of-requires-3 : tie.Need-state-of-requires-3 Inv-loop μ-loop
 state-of-requires-3 c κs = search needs
@@ -193,7 +197,9 @@ returns-3 : tie.Need-returns-3 Inv-loop μ-loop
 returns-3 c =
     let b = c .before .before in
     let a = b .before .before .before .before .before .before .before .args in
-    rw (c .state-of3 .ensures) (playing-done (a .t1) (a .t2) (record { marking = b .loop .marking; since = b .loop .since; now = b .loop .now }) (b .loop .i) (b .loop .inv) (c .before .loop-test .left), not-late b)
+    let v = b .loop in
+    rw (c .state-of3 .ensures)
+    (playing-done (a .t1) (a .t2) (record { marking = v .marking; since = v .since; now = v .now }) (v .i) (v .inv) (c .before .loop-test .left), not-late b)
 
 pub play-run-spec : {M : Type 1} → statement M
 play-run-spec =
