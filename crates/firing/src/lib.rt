@@ -41,9 +41,26 @@ pub struct Rows {
 // The public functions below are for the crates above and no operations: they ask for counts within the arrays, for tokens and weights that fit a byte, and
 // `fire` for a firing that passed its judgement. Whoever calls them shows it, from a net and a run that passed their checks.
 
-// Whether every place has the tokens that a row asks for. All sixteen slots are compared, with no way out of the loop, so that the machine does it at once:
-// rows with zeros past the places ask nothing there.
-pub fn covered<'a>(take: &'a [u8], row: usize, marking: &'a [u8]) -> bool
+// Whether every place has the tokens that a row asks for; the first place found short settles the matter.
+pub fn enough<'a>(take: &'a [u8], row: usize, marking: &'a [u8], places: usize) -> bool
+    requires { ⌜ (row + places ≤ length (now take)) × (places ≤ length (now marking)) ⌝ }
+    ensures { λ r. ⌜ r ≡ enoughIn (now (take .entry)) row (now (marking .entry)) places ⌝ }
+{
+    let mut ok = true;
+    let mut p: usize = 0;
+    'places: while p < places {
+        if marking[p] < take[row + p] {
+            ok = false;
+            break 'places;
+        }
+        p += 1;
+    }
+    ok
+}
+
+// The same of all sixteen slots, with no way out of the loop, so that the machine compares them at once: rows with zeros past the places ask nothing there.
+// It serves the restarts, for which several transitions are asked at a firing.
+fn covered<'a>(take: &'a [u8], row: usize, marking: &'a [u8]) -> bool
     requires { ⌜ (row + 16 ≤ length (now take)) × (16 ≤ length (now marking)) ⌝ }
     ensures { λ r. ⌜ r ≡ enoughIn (now (take .entry)) row (now (marking .entry)) 16 ⌝ }
 {
@@ -286,10 +303,10 @@ fn judge<'a>(
     t: usize,
     n: usize,
 ) -> Checked
-    requires { ⌜ (places ≤ 16) × (t < 32) × (length (now take) ≡ 512) × (length (now give) ≡ 512) × (length (now marking) ≡ 16) × Blank (now take) places ⌝ }
+    requires { ⌜ (places ≤ 16) × (t < 32) × (length (now take) ≡ 512) × (length (now give) ≡ 512) × (length (now marking) ≡ 16) ⌝ }
     ensures { λ r. ⌜ r ≡ judgedIn (now (take .entry)) (now (give .entry)) tr (now (marking .entry)) clock places denominator t n ⌝ }
 {
-    if covered(take, 16 * t, marking) {
+    if enough(take, 16 * t, marking, places) {
         if on_time(tr, denominator, clock) {
             if within_limit(take, give, 16 * t, marking, places) {
                 Checked::Passed

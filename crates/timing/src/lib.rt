@@ -10,7 +10,7 @@ ghost use mathlib.Core.Path.{_≡_};
 ghost use Prim.Native.Nat.{ℕ, suc, _≤_, _<_};
 ghost use lib.ListN.{length, getD, take};
 ghost use Rattle.firing.specs.Replay.{ruleOf};
-ghost use Rattle.firing.specs.Rows.{Blank, InBytes};
+ghost use Rattle.firing.specs.Rows.{InBytes};
 ghost use Rattle.timing.specs.Windows.{firesOf};
 ghost use Rattle.timing.specs.Schedule.{waitsBetween};
 ghost use Rattle.timing.specs.Rounding.{roundedRun, timetableRun};
@@ -103,10 +103,10 @@ fn judge_tokens<'a>(
     t: usize,
     n: usize,
 ) -> Checked
-    requires { ⌜ (places ≤ 16) × (t < 32) × (length (now take) ≡ 512) × (length (now give) ≡ 512) × (length (now marking) ≡ 16) × Blank (now take) places ⌝ }
+    requires { ⌜ (places ≤ 16) × (t < 32) × (length (now take) ≡ 512) × (length (now give) ≡ 512) × (length (now marking) ≡ 16) ⌝ }
     ensures { λ r. ⌜ r ≡ tokensIn (now (take .entry)) (now (give .entry)) (now (marking .entry)) places t n ⌝ }
 {
-    if firing::covered(take, 16 * t, marking) {
+    if firing::enough(take, 16 * t, marking, places) {
         if firing::within_limit(take, give, 16 * t, marking, places) {
             Checked::Passed
         } else {

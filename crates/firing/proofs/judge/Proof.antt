@@ -1,25 +1,16 @@
--- The tests go in the order of the definition, and each answer is that of the first that fails; past the places a row asks nothing.
-use Prim.Native.Nat.{_*_}
+-- The tests go in the order of the definition, and each answer is that of the first that fails.
 use native.Mathlib.Omega.{arith}
-use mathlib.Core.Path.{_≡_, refl, sym, _∙_}
+use mathlib.Core.Path.{refl, sym, _∙_}
 use borrow.Author.Needs.{needs}
-use Rattle.firing.specs.Rows.{enoughIn, judgedIn}
-use Rattle.firing.proofs.RowLaws.{enough-cut}
+use Rattle.firing.specs.Rows.{judgedIn}
 use Rattle.firing.proofs.judge.Statement.{statement}
 use Rattle.firing.proofs.judge.Tie as tie
 
-enough-is : (k : tie.After-covered) →
-    let a = k .before .before .before .before .args in
-    k .covered .result ≡ enoughIn (a .take .now) (16 * a .t) (a .marking .now) (a .places)
-enough-is k =
-    let s = k .before .before .before .before in
-    k .covered .ensures ∙ enough-cut (s .args .take .now) (s .args .places) (s .pre .0) (s .pre .5) (s .args .marking .now) (s .args .t) (s .pre .1)
+mul-enough : tie.Need-mul-enough
+mul-enough c = search needs
 
-mul-covered : tie.Need-mul-covered
-mul-covered c = search needs
-
-covered-requires : tie.Need-covered-requires
-covered-requires c κs = search needs
+enough-requires : tie.Need-enough-requires
+enough-requires c κs = search needs
 
 on-time-requires : tie.Need-on-time-requires
 on-time-requires c κs = search needs
@@ -31,7 +22,7 @@ within-limit-requires : tie.Need-within-limit-requires
 within-limit-requires c κs =
     let e = c .before .before in
     let s = e .before .before .before .before .before in
-    (omega (arith, s .pre), omega (arith, s .pre), omega (arith, s .pre), sym (enough-is (e .before)) ∙ e .if1 .taken)
+    (omega (arith, s .pre), omega (arith, s .pre), omega (arith, s .pre), sym (e .before .enough .ensures) ∙ e .if1 .taken)
 
 returns : tie.Need-returns
 unfolding judgedIn
@@ -39,7 +30,7 @@ returns c =
     let l = c .before in
     let o = l .before in
     let e = o .before .before in
-    rw (sym (enough-is (e .before)) ∙ e .if1 .taken, sym (o .before .on-time .ensures) ∙ o .if2 .taken, sym (l .within-limit .ensures) ∙ c .if3 .taken) refl
+    rw (sym (e .before .enough .ensures) ∙ e .if1 .taken, sym (o .before .on-time .ensures) ∙ o .if2 .taken, sym (l .within-limit .ensures) ∙ c .if3 .taken) refl
 
 returns-2 : tie.Need-returns-2
 unfolding judgedIn
@@ -47,24 +38,24 @@ returns-2 c =
     let l = c .before in
     let o = l .before in
     let e = o .before .before in
-    rw (sym (enough-is (e .before)) ∙ e .if1 .taken, sym (o .before .on-time .ensures) ∙ o .if2 .taken, sym (l .within-limit .ensures) ∙ c .if3 .left) refl
+    rw (sym (e .before .enough .ensures) ∙ e .if1 .taken, sym (o .before .on-time .ensures) ∙ o .if2 .taken, sym (l .within-limit .ensures) ∙ c .if3 .left) refl
 
 returns-3 : tie.Need-returns-3
 unfolding judgedIn
 returns-3 c =
     let e = c .before .before in
-    rw (sym (enough-is (e .before)) ∙ e .if1 .taken, sym (c .before .on-time .ensures) ∙ c .if2 .left) refl
+    rw (sym (e .before .enough .ensures) ∙ e .if1 .taken, sym (c .before .on-time .ensures) ∙ c .if2 .left) refl
 
 returns-4 : tie.Need-returns-4
 unfolding judgedIn
-returns-4 c = rw (sym (enough-is (c .before)) ∙ c .if1 .left) refl
+returns-4 c = rw (sym (c .before .enough .ensures) ∙ c .if1 .left) refl
 
 pub judge-spec : {M : Type 1} → statement M
 judge-spec =
     tie.close
     (tie.spec
-    mul-covered
-    covered-requires
+    mul-enough
+    enough-requires
     on-time-requires
     mul-within-limit
     within-limit-requires

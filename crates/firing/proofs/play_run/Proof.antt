@@ -110,7 +110,7 @@ judge-requires c κs =
     let b = e .before .before .before .before in
     let w = b .before .before .before .before .before in
     let s = w .before .before in
-    (s .pre .0, omega (arith, e .if1 .left, s .pre), rows-long w .0, rows-long w .1, b .loop .inv .long .0, w .rows-of .ensures .blank)
+    (s .pre .0, omega (arith, e .if1 .left, s .pre), rows-long w .0, rows-long w .1, b .loop .inv .long .0)
 
 enum-told : tie.Need-enum-told Inv-loop μ-loop
 enum-told c = search needs

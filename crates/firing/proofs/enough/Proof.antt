@@ -1,0 +1,66 @@
+-- The scan has found no short place so far (`Scanned`); the first short one answers for all, and so does the end.
+use Prim.Native.Nat.{_-_}
+use mathlib.Core.Path.{sym}
+use borrow.Author.Tests.{le-leb, lt-leb}
+use borrow.Author.Needs.{needs}
+use Rattle.laws.specs.All.{all-fails}
+use Rattle.firing.specs.Rows.{enoughIn}
+use Rattle.firing.proofs.Scan.{Scanned, scan-start, scan-more, scan-done, hasEnough}
+use Rattle.firing.proofs.enough.Statement.{statement}
+use Rattle.firing.proofs.enough.Tie as tie
+
+abbrev Inv-places : tie.InvT-places
+Inv-places take row marking places ok₀ p₀ ok p = Scanned (hasEnough take row marking) places ok p
+
+abbrev μ-places : tie.MeasureT-places
+μ-places take row marking places ok₀ p₀ ok p = places - p
+
+places-holds : tie.Need-places-holds Inv-places μ-places
+places-holds c = scan-start (hasEnough (c .args .take .now) (c .args .row) (c .args .marking .now)) (c .args .places)
+
+shared-slice-read-if1 : tie.Need-shared-slice-read-if1 Inv-places μ-places
+shared-slice-read-if1 c = search needs
+
+add-if1 : tie.Need-add-if1 Inv-places μ-places
+add-if1 c = search needs
+
+shared-slice-read-if1-2 : tie.Need-shared-slice-read-if1-2 Inv-places μ-places
+shared-slice-read-if1-2 c = search needs
+
+add-p : tie.Need-add-p Inv-places μ-places
+add-p c = search needs
+
+places-less : tie.Need-places-less Inv-places μ-places
+places-less c = search needs
+
+places-again : tie.Need-places-again Inv-places μ-places
+places-again c =
+    let b = c .before .before .before in
+    scan-more (b .before .places .inv) (b .places-test .taken) (le-leb _ _ (c .if1 .left))
+
+returns : tie.Need-returns Inv-places μ-places
+unfolding enoughIn
+returns c = scan-done (c .before .places .inv) (c .places-test .left)
+
+returns-2 : tie.Need-returns-2 Inv-places μ-places
+unfolding enoughIn
+returns-2 c =
+    let b = c .before .before .before in
+    let a = b .before .before .args in
+    sym (all-fails (hasEnough (a .take .now) (a .row) (a .marking .now)) (b .before .places .p) (a .places) (lt-leb _ _ (c .if1 .taken)) (b .places-test .taken))
+
+pub enough-spec : {M : Type 1} → statement M
+enough-spec =
+    tie.close
+    (tie.spec
+    Inv-places
+    μ-places
+    places-holds
+    shared-slice-read-if1
+    add-if1
+    shared-slice-read-if1-2
+    add-p
+    places-less
+    places-again
+    returns
+    returns-2)
