@@ -4,20 +4,8 @@ use borrow.Author.Needs.{needs}
 use Rattle.cards.proofs.check_order.Statement.{statement}
 use Rattle.cards.proofs.check_order.Tie as tie
 
-check-net-requires : tie.Need-check-net-requires
-check-net-requires c κs = search needs
-
-enum-told : tie.Need-enum-told
-enum-told c = search needs
-
-enum-told-2 : tie.Need-enum-told-2
-enum-told-2 c = search needs
-
 returns : tie.Need-returns
 returns c = c .enum-told2 .given .1 ∙ rw (sym (c .before .before .check-net .ensures) ∙ c .enum-told2 .given .1)
-
-check-order-lines-requires : tie.Need-check-order-lines-requires
-check-order-lines-requires c κs = search needs
 
 returns-2 : tie.Need-returns-2
 returns-2 c =
@@ -27,4 +15,4 @@ returns-2 c =
 pub check-order-spec : {M : Type 1} → statement M
 check-order-spec =
     tie.close
-    (tie.spec check-net-requires enum-told enum-told-2 returns check-order-lines-requires returns-2)
+    (tie.spec (λ c κs. search needs) (λ c. search needs) (λ c. search needs) returns (λ c κs. search needs) returns-2)

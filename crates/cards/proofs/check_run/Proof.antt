@@ -4,20 +4,8 @@ use borrow.Author.Needs.{needs}
 use Rattle.cards.proofs.check_run.Statement.{statement}
 use Rattle.cards.proofs.check_run.Tie as tie
 
-check-net-requires : tie.Need-check-net-requires
-check-net-requires c κs = search needs
-
-enum-told : tie.Need-enum-told
-enum-told c = search needs
-
-enum-told-2 : tie.Need-enum-told-2
-enum-told-2 c = search needs
-
 returns : tie.Need-returns
 returns c = c .enum-told2 .given .1 ∙ rw (sym (c .before .before .check-net .ensures) ∙ c .enum-told2 .given .1)
-
-check-run-lines-requires : tie.Need-check-run-lines-requires
-check-run-lines-requires c κs = search needs
 
 returns-2 : tie.Need-returns-2
 returns-2 c =
@@ -27,4 +15,4 @@ returns-2 c =
 pub check-run-spec : {M : Type 1} → statement M
 check-run-spec =
     tie.close
-    (tie.spec check-net-requires enum-told enum-told-2 returns check-run-lines-requires returns-2)
+    (tie.spec (λ c κs. search needs) (λ c. search needs) (λ c. search needs) returns (λ c κs. search needs) returns-2)

@@ -4,21 +4,6 @@ use borrow.Author.Needs.{needs}
 use Rattle.cards.proofs.read_order.Statement.{statement}
 use Rattle.cards.proofs.read_order.Tie as tie
 
-check-net-requires : tie.Need-check-net-requires
-check-net-requires c κs = search needs
-
-enum-known-c : tie.Need-enum-known-c
-enum-known-c c = search needs
-
-refused-order-requires : tie.Need-refused-order-requires
-refused-order-requires c κs = search needs
-
-enum-told : tie.Need-enum-told
-enum-told c = search needs
-
-order-card-requires : tie.Need-order-card-requires
-order-card-requires c κs = search needs
-
 returns : tie.Need-returns
 returns c =
     let t = c .before .before in
@@ -32,11 +17,4 @@ returns-2 c =
 pub read-order-spec : {M : Type 1} → statement M
 read-order-spec =
     tie.close
-    (tie.spec
-    check-net-requires
-    enum-known-c
-    refused-order-requires
-    enum-told
-    order-card-requires
-    returns
-    returns-2)
+    (tie.spec (λ c κs. search needs) (λ c. search needs) (λ c κs. search needs) (λ c. search needs) (λ c κs. search needs) returns returns-2)

@@ -11,18 +11,6 @@ use Rattle.cards.proofs.Both.{net-stopped, card-stopped, both-read, bot
 use Rattle.cards.proofs.read_order_cards.Statement.{statement}
 use Rattle.cards.proofs.read_order_cards.Tie as tie
 
-read-net-requires : tie.Need-read-net-requires
-read-net-requires c κs = search needs
-
-enum-known-net-read : tie.Need-enum-known-net-read
-enum-known-net-read c = search needs
-
-refused-order-cards-requires : tie.Need-refused-order-cards-requires
-refused-order-cards-requires c κs = search needs
-
-enum-known-net-read-2 : tie.Need-enum-known-net-read-2
-enum-known-net-read-2 c = search needs
-
 sub-order-card : tie.Need-sub-order-card
 sub-order-card c =
     let n = c .before .before .before .before in
@@ -30,21 +18,6 @@ sub-order-card c =
 
 part-order-card-start : tie.Need-part-order-card-start
 part-order-card-start c = sub-order-card c
-
-part-order-card-end : tie.Need-part-order-card-end
-part-order-card-end c = search needs
-
-order-card-requires : tie.Need-order-card-requires
-order-card-requires c κs = search needs
-
-enum-known-order-read : tie.Need-enum-known-order-read
-enum-known-order-read c = search needs
-
-refused-order-cards-requires-2 : tie.Need-refused-order-cards-requires-2
-refused-order-cards-requires-2 c κs = search needs
-
-enum-known-order-read-2 : tie.Need-enum-known-order-read-2
-enum-known-order-read-2 c = search needs
 
 add-t18 : tie.Need-add-t18
 add-t18 c =
@@ -92,19 +65,5 @@ returns-3 c =
 pub read-order-cards-spec : {M : Type 1} → statement M
 read-order-cards-spec =
     tie.close
-    (tie.spec
-    read-net-requires
-    enum-known-net-read
-    refused-order-cards-requires
-    returns
-    enum-known-net-read-2
-    sub-order-card
-    part-order-card-start
-    part-order-card-end
-    order-card-requires
-    enum-known-order-read
-    refused-order-cards-requires-2
-    returns-2
-    enum-known-order-read-2
-    add-t18
-    returns-3)
+    (tie.spec (λ c κs. search needs) (λ c. search needs) (λ c κs. search needs) returns (λ c. search needs) sub-order-card part-order-card-start
+    (λ c. search needs) (λ c κs. search needs) (λ c. search needs) (λ c κs. search needs) returns-2 (λ c. search needs) add-t18 returns-3)

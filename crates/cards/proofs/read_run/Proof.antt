@@ -4,21 +4,6 @@ use borrow.Author.Needs.{needs}
 use Rattle.cards.proofs.read_run.Statement.{statement}
 use Rattle.cards.proofs.read_run.Tie as tie
 
-check-net-requires : tie.Need-check-net-requires
-check-net-requires c κs = search needs
-
-enum-known-c : tie.Need-enum-known-c
-enum-known-c c = search needs
-
-refused-run-requires : tie.Need-refused-run-requires
-refused-run-requires c κs = search needs
-
-enum-told : tie.Need-enum-told
-enum-told c = search needs
-
-run-card-requires : tie.Need-run-card-requires
-run-card-requires c κs = search needs
-
 returns : tie.Need-returns
 returns c =
     let t = c .before .before in
@@ -32,11 +17,4 @@ returns-2 c =
 pub read-run-spec : {M : Type 1} → statement M
 read-run-spec =
     tie.close
-    (tie.spec
-    check-net-requires
-    enum-known-c
-    refused-run-requires
-    enum-told
-    run-card-requires
-    returns
-    returns-2)
+    (tie.spec (λ c κs. search needs) (λ c. search needs) (λ c κs. search needs) (λ c. search needs) (λ c κs. search needs) returns returns-2)

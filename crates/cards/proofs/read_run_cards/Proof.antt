@@ -11,18 +11,6 @@ use Rattle.cards.proofs.Both.{net-stopped, card-stopped, both-read, bot
 use Rattle.cards.proofs.read_run_cards.Statement.{statement}
 use Rattle.cards.proofs.read_run_cards.Tie as tie
 
-read-net-requires : tie.Need-read-net-requires
-read-net-requires c κs = search needs
-
-enum-known-net-read : tie.Need-enum-known-net-read
-enum-known-net-read c = search needs
-
-refused-run-cards-requires : tie.Need-refused-run-cards-requires
-refused-run-cards-requires c κs = search needs
-
-enum-known-net-read-2 : tie.Need-enum-known-net-read-2
-enum-known-net-read-2 c = search needs
-
 sub-run-card : tie.Need-sub-run-card
 sub-run-card c =
     let n = c .before .before .before .before in
@@ -30,21 +18,6 @@ sub-run-card c =
 
 part-run-card-start : tie.Need-part-run-card-start
 part-run-card-start c = sub-run-card c
-
-part-run-card-end : tie.Need-part-run-card-end
-part-run-card-end c = search needs
-
-run-card-requires : tie.Need-run-card-requires
-run-card-requires c κs = search needs
-
-enum-known-run-read : tie.Need-enum-known-run-read
-enum-known-run-read c = search needs
-
-refused-run-cards-requires-2 : tie.Need-refused-run-cards-requires-2
-refused-run-cards-requires-2 c κs = search needs
-
-enum-known-run-read-2 : tie.Need-enum-known-run-read-2
-enum-known-run-read-2 c = search needs
 
 add-t18 : tie.Need-add-t18
 add-t18 c =
@@ -92,19 +65,5 @@ returns-3 c =
 pub read-run-cards-spec : {M : Type 1} → statement M
 read-run-cards-spec =
     tie.close
-    (tie.spec
-    read-net-requires
-    enum-known-net-read
-    refused-run-cards-requires
-    returns
-    enum-known-net-read-2
-    sub-run-card
-    part-run-card-start
-    part-run-card-end
-    run-card-requires
-    enum-known-run-read
-    refused-run-cards-requires-2
-    returns-2
-    enum-known-run-read-2
-    add-t18
-    returns-3)
+    (tie.spec (λ c κs. search needs) (λ c. search needs) (λ c κs. search needs) returns (λ c. search needs) sub-run-card part-run-card-start
+    (λ c. search needs) (λ c κs. search needs) (λ c. search needs) (λ c κs. search needs) returns-2 (λ c. search needs) add-t18 returns-3)

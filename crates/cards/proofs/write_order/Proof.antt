@@ -8,18 +8,6 @@ use Rattle.cards.proofs.Cards.{order-fits}
 use Rattle.cards.proofs.write_order.Statement.{statement}
 use Rattle.cards.proofs.write_order.Tie as tie
 
-check-order-requires : tie.Need-check-order-requires
-check-order-requires c κs = search needs
-
-enum-known-c : tie.Need-enum-known-c
-enum-known-c c = search needs
-
-enum-told : tie.Need-enum-told
-enum-told c = search needs
-
-slice-aggregate-put-order : tie.Need-slice-aggregate-put-order
-slice-aggregate-put-order c = search needs
-
 put-order-requires : tie.Need-put-order-requires
 put-order-requires c κs =
     let t = c .before in
@@ -33,17 +21,11 @@ array-share-prefix-card c = front-within (c .before .put-order .ensures)
 slice-aggregate-respond : tie.Need-slice-aggregate-respond
 slice-aggregate-respond c = front-length (c .before .before .put-order .ensures)
 
-respond-requires : tie.Need-respond-requires
-respond-requires c κs = search needs
-
 returns : tie.Need-returns
 returns c =
     let k = c .before .before .before in
     let a = k .before .before .args in
     card-refused (orderCard (a .net .transitions) .text (a .order)) (a .out .now) (sym (k .check-order .ensures) ∙ c .before .c .given .1)
-
-same-length : tie.Need-same-length
-same-length c = search needs
 
 returns-2 : tie.Need-returns-2
 returns-2 c =
@@ -55,15 +37,5 @@ returns-2 c =
 pub write-order-spec : {M : Type 1} → statement M
 write-order-spec =
     tie.close
-    (tie.spec
-    check-order-requires
-    enum-known-c
-    enum-told
-    slice-aggregate-put-order
-    put-order-requires
-    array-share-prefix-card
-    slice-aggregate-respond
-    respond-requires
-    returns
-    same-length
-    returns-2)
+    (tie.spec (λ c κs. search needs) (λ c. search needs) (λ c. search needs) (λ c. search needs) put-order-requires array-share-prefix-card
+    slice-aggregate-respond (λ c κs. search needs) returns (λ c. search needs) returns-2)

@@ -8,18 +8,6 @@ use Rattle.cards.proofs.Cards.{run-fits}
 use Rattle.cards.proofs.write_run.Statement.{statement}
 use Rattle.cards.proofs.write_run.Tie as tie
 
-check-run-requires : tie.Need-check-run-requires
-check-run-requires c κs = search needs
-
-enum-known-c : tie.Need-enum-known-c
-enum-known-c c = search needs
-
-enum-told : tie.Need-enum-told
-enum-told c = search needs
-
-slice-aggregate-put-run : tie.Need-slice-aggregate-put-run
-slice-aggregate-put-run c = search needs
-
 put-run-requires : tie.Need-put-run-requires
 put-run-requires c κs =
     let t = c .before in
@@ -33,17 +21,11 @@ array-share-prefix-card c = front-within (c .before .put-run .ensures)
 slice-aggregate-respond : tie.Need-slice-aggregate-respond
 slice-aggregate-respond c = front-length (c .before .before .put-run .ensures)
 
-respond-requires : tie.Need-respond-requires
-respond-requires c κs = search needs
-
 returns : tie.Need-returns
 returns c =
     let k = c .before .before .before in
     let a = k .before .before .args in
     card-refused (runCard (a .net .transitions) .text (a .run)) (a .out .now) (sym (k .check-run .ensures) ∙ c .before .c .given .1)
-
-same-length : tie.Need-same-length
-same-length c = search needs
 
 returns-2 : tie.Need-returns-2
 returns-2 c =
@@ -55,15 +37,5 @@ returns-2 c =
 pub write-run-spec : {M : Type 1} → statement M
 write-run-spec =
     tie.close
-    (tie.spec
-    check-run-requires
-    enum-known-c
-    enum-told
-    slice-aggregate-put-run
-    put-run-requires
-    array-share-prefix-card
-    slice-aggregate-respond
-    respond-requires
-    returns
-    same-length
-    returns-2)
+    (tie.spec (λ c κs. search needs) (λ c. search needs) (λ c. search needs) (λ c. search needs) put-run-requires array-share-prefix-card
+    slice-aggregate-respond (λ c κs. search needs) returns (λ c. search needs) returns-2)

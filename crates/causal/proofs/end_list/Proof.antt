@@ -4,33 +4,21 @@ use borrow.Author.Tests.{eq-eqb, ne-eqb}
 use Rattle.causal.proofs.end_list.Statement.{statement}
 use Rattle.causal.proofs.end_list.Tie as tie
 
-slice-aggregate-put-bytes : tie.Need-slice-aggregate-put-bytes
-slice-aggregate-put-bytes c = search needs
-
 put-bytes-requires : tie.Need-put-bytes-requires
 put-bytes-requires c κs =
     let b = c .before .before .before .before in
     rw (eq-eqb (b .args .at) (b .args .begin) (c .before .before .if1 .taken)) at (b .pre)
-
-slice-aggregate-put-bytes-2 : tie.Need-slice-aggregate-put-bytes-2
-slice-aggregate-put-bytes-2 c = search needs
 
 put-bytes-requires-2 : tie.Need-put-bytes-requires-2
 put-bytes-requires-2 c κs =
     let b = c .before .before .before .before in
     rw (ne-eqb (b .args .at) (b .args .begin) (c .before .before .if1 .left)) at (b .pre)
 
-same-length : tie.Need-same-length
-same-length c = search needs
-
 returns : tie.Need-returns
 returns c =
     let i = c .before .before .before .before .before in
     let a = i .before .before .args in
     rw (eq-eqb (a .at) (a .begin) (i .if1 .taken)) (c .before .before .put-bytes .ensures)
-
-same-length-2 : tie.Need-same-length-2
-same-length-2 c = search needs
 
 returns-2 : tie.Need-returns-2
 returns-2 c =
@@ -41,12 +29,5 @@ returns-2 c =
 pub end-list-spec : {M : Type 1} → statement M
 end-list-spec =
     tie.close
-    (tie.spec
-    slice-aggregate-put-bytes
-    put-bytes-requires
-    slice-aggregate-put-bytes-2
-    put-bytes-requires-2
-    same-length
-    returns
-    same-length-2
+    (tie.spec (λ c. search needs) put-bytes-requires (λ c. search needs) put-bytes-requires-2 (λ c. search needs) returns (λ c. search needs)
     returns-2)

@@ -19,16 +19,12 @@ returns c =
 slice-write-out : tie.Need-slice-write-out
 slice-write-out c = room c
 
-add-result : tie.Need-add-result
-add-result c = search needs
-
-same-length : tie.Need-same-length
-same-length c = search needs
-
 returns-2 : tie.Need-returns-2
 returns-2 c =
     let b = c .before in
     rw (c .if1 .left) (wrote-byte (b .args .out .now) (b .args .at) 44 (room c))
 
 pub put-comma-spec : {M : Type 1} → statement M
-put-comma-spec = tie.close (tie.spec returns slice-write-out add-result same-length returns-2)
+put-comma-spec =
+    tie.close
+    (tie.spec returns slice-write-out (λ c. search needs) (λ c. search needs) returns-2)

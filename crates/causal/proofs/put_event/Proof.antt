@@ -30,16 +30,10 @@ room b =
     let a = b .args in
     subst (λ (l : List ℕ). a .at + length l ≤ length (a .out .now)) (event-parts (a .counts .now) (a .top) (a .weights .now) (a .t) (a .places)) (b .pre .1)
 
-slice-aggregate-put-number-line : tie.Need-slice-aggregate-put-number-line
-slice-aggregate-put-number-line c = search needs
-
 put-number-line-requires : tie.Need-put-number-line-requires
 put-number-line-requires c κs =
     let b = c .before .before .before .before .before .before in
     room-first (b .args .out .now) (b .args .at) (fire-line b) (from-line b) (room b)
-
-slice-aggregate-put-items-line : tie.Need-slice-aggregate-put-items-line
-slice-aggregate-put-items-line c = search needs
 
 put-items-line-requires : tie.Need-put-items-line-requires
 put-items-line-requires c κs =
@@ -50,15 +44,6 @@ put-items-line-requires c κs =
       room-then (b .args .out .now) (b .args .at) (fire-line b) (from-line b) (room b) (w .put-number-line .result) (w .put-number-line .last .0)
           (w .put-number-line .ensures),
     )
-
-same-length : tie.Need-same-length
-same-length c = search needs
-
-same-length-2 : tie.Need-same-length-2
-same-length-2 c = search needs
-
-same-length-3 : tie.Need-same-length-3
-same-length-3 c = search needs
 
 returns : tie.Need-returns
 returns c =
@@ -76,12 +61,5 @@ returns c =
 pub put-event-spec : {M : Type 1} → statement M
 put-event-spec =
     tie.close
-    (tie.spec
-    slice-aggregate-put-number-line
-    put-number-line-requires
-    slice-aggregate-put-items-line
-    put-items-line-requires
-    same-length
-    same-length-2
-    same-length-3
-    returns)
+    (tie.spec (λ c. search needs) put-number-line-requires (λ c. search needs) put-items-line-requires (λ c. search needs) (λ c. search needs)
+    (λ c. search needs) returns)

@@ -31,12 +31,6 @@ room-here w =
     (numbers-long (unset (b .args .linked .now) 1 (b .args .count - 1)))
     (b .pre .2) (w .put-bytes .result) (w .put-bytes .last .0) (w .put-bytes .ensures)
 
-slice-aggregate-put-bytes : tie.Need-slice-aggregate-put-bytes Inv-loop μ-loop
-slice-aggregate-put-bytes c = search needs
-
-put-bytes-requires : tie.Need-put-bytes-requires Inv-loop μ-loop
-put-bytes-requires c κs = search needs
-
 loop-holds : tie.Need-loop-holds Inv-loop μ-loop
 loop-holds c =
     let w = c .before .before in
@@ -44,9 +38,6 @@ loop-holds c =
     line-start (b .args .out .now) (b .args .at) freeKey (numbersFrom (b .args .linked .now) (b .args .count) 1)
     (numbers-long (unset (b .args .linked .now) 1 (b .args .count - 1)))
     (b .pre .2) (w .put-bytes .result) (w .put-bytes .last .0) (w .put-bytes .ensures)
-
-shared-slice-read-if1 : tie.Need-shared-slice-read-if1 Inv-loop μ-loop
-shared-slice-read-if1 c = search needs
 
 put-comma-requires : tie.Need-put-comma-requires Inv-loop μ-loop
 put-comma-requires c κs =
@@ -65,12 +56,6 @@ put-number-requires c κs =
     number-room (a .linked .now) (a .count) (l .loop .i) (k .before .before .before .before .loop-test .taken) (l .loop .inv) (room-here w)
     (not-true _ (k .before .before .if1 .taken))
     (k .put-comma .result) (k .put-comma .last .0) (k .put-comma .ensures)
-
-add-i : tie.Need-add-i Inv-loop μ-loop
-add-i c = search needs
-
-loop-less : tie.Need-loop-less Inv-loop μ-loop
-loop-less c = search needs
 
 loop-again : tie.Need-loop-again Inv-loop μ-loop
 loop-again c =
@@ -121,18 +106,5 @@ same-length c =
 pub put-free-spec : {M : Type 1} → statement M
 put-free-spec =
     tie.close
-    (tie.spec
-    Inv-loop
-    μ-loop
-    slice-aggregate-put-bytes
-    put-bytes-requires
-    loop-holds
-    shared-slice-read-if1
-    put-comma-requires
-    put-number-requires
-    add-i
-    loop-less
-    loop-again
-    end-list-requires
-    same-length
-    returns)
+    (tie.spec Inv-loop μ-loop (λ c. search needs) (λ c κs. search needs) loop-holds (λ c. search needs) put-comma-requires put-number-requires
+    (λ c. search needs) (λ c. search needs) loop-again end-list-requires same-length returns)

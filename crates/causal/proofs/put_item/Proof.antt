@@ -49,9 +49,6 @@ put-number-requires c κs =
     (w .put-comma .result) (w .put-comma .last .0) (w .put-comma .ensures) (v .put-part .result) (v .put-part .last .0) (v .put-part .ensures)
     (u .put-part2 .result) (u .put-part2 .last .0) (u .put-part2 .ensures)
 
-same-length : tie.Need-same-length
-same-length c = search needs
-
 returns : tie.Need-returns
 returns c =
     let n = c .before .before in
@@ -68,10 +65,4 @@ returns c =
 pub put-item-spec : {M : Type 1} → statement M
 put-item-spec =
     tie.close
-    (tie.spec
-    put-comma-requires
-    put-part-requires
-    put-part-requires-2
-    put-number-requires
-    same-length
-    returns)
+    (tie.spec put-comma-requires put-part-requires put-part-requires-2 put-number-requires (λ c. search needs) returns)

@@ -65,18 +65,6 @@ loop-holds c =
           (w .put-bytes .ensures)),
     )
 
-mul-n : tie.Need-mul-n Inv-loop μ-loop
-mul-n c = search needs
-
-shared-slice-read-n : tie.Need-shared-slice-read-n Inv-loop μ-loop
-shared-slice-read-n c = search needs
-
-mul-take-oldest : tie.Need-mul-take-oldest Inv-loop μ-loop
-mul-take-oldest c = search needs
-
-slice-read-take-oldest : tie.Need-slice-read-take-oldest Inv-loop μ-loop
-slice-read-take-oldest c = search needs
-
 take-oldest-requires : tie.Need-take-oldest-requires Inv-loop μ-loop
 take-oldest-requires c κs =
     let t = c .before .before .before .before .before in
@@ -91,18 +79,6 @@ take-oldest-requires c κs =
       (omega (arith, s .1 .wrote .end), omega arith, held .0, q .2, s .0 .size ∙ q .3, held .1),
       place-room (a .counts .now) (a .top) (a .places) (a .weights .now) (s .0) (q .2) (q .0) inside (s .1) (room-here w),
     )
-
-mul-heads : tie.Need-mul-heads Inv-loop μ-loop
-mul-heads c = search needs
-
-slice-write-heads : tie.Need-slice-write-heads Inv-loop μ-loop
-slice-write-heads c = search needs
-
-add-p : tie.Need-add-p Inv-loop μ-loop
-add-p c = search needs
-
-loop-less : tie.Need-loop-less Inv-loop μ-loop
-loop-less c = search needs
 
 loop-again : tie.Need-loop-again Inv-loop μ-loop
 loop-again c =
@@ -185,23 +161,6 @@ same-length c =
 pub put-items-line-spec : {M : Type 1} → statement M
 put-items-line-spec =
     tie.close
-    (tie.spec
-    Inv-loop
-    μ-loop
-    put-bytes-requires
-    loop-holds
-    mul-n
-    shared-slice-read-n
-    mul-take-oldest
-    slice-read-take-oldest
-    take-oldest-requires
-    mul-heads
-    slice-write-heads
-    add-p
-    loop-less
-    loop-again
-    end-list-requires
-    same-length
-    same-length-2
-    same-length-3
-    returns)
+    (tie.spec Inv-loop μ-loop put-bytes-requires loop-holds (λ c. search needs) (λ c. search needs) (λ c. search needs) (λ c. search needs)
+    take-oldest-requires (λ c. search needs) (λ c. search needs) (λ c. search needs) (λ c. search needs) loop-again end-list-requires same-length
+    same-length-2 same-length-3 returns)

@@ -5,12 +5,6 @@ use Rattle.causal.proofs.LineLoop.{items-left}
 use Rattle.causal.proofs.put_left.Statement.{statement}
 use Rattle.causal.proofs.put_left.Tie as tie
 
-slice-aggregate-put-items-line : tie.Need-slice-aggregate-put-items-line
-slice-aggregate-put-items-line c = search needs
-
-slice-aggregate-put-items-line-2 : tie.Need-slice-aggregate-put-items-line-2
-slice-aggregate-put-items-line-2 c = search needs
-
 put-items-line-requires : tie.Need-put-items-line-requires
 put-items-line-requires c κs =
     let b = c .before .before .before .before .before .before .before .before in
@@ -19,15 +13,6 @@ put-items-line-requires c κs =
       (q .0, q .1, q .2, q .3, q .4, omega (arith, q .0), q .5),
       rw (items-left (a .counts .now) (a .top) (a .places) (q .0) (b .pre .1 .0)) (b .pre .1 .1),
     )
-
-same-length : tie.Need-same-length
-same-length c = search needs
-
-same-length-2 : tie.Need-same-length-2
-same-length-2 c = search needs
-
-same-length-3 : tie.Need-same-length-3
-same-length-3 c = search needs
 
 returns : tie.Need-returns
 returns c =
@@ -39,11 +24,4 @@ returns c =
 pub put-left-spec : {M : Type 1} → statement M
 put-left-spec =
     tie.close
-    (tie.spec
-    slice-aggregate-put-items-line
-    slice-aggregate-put-items-line-2
-    put-items-line-requires
-    same-length
-    same-length-2
-    same-length-3
-    returns)
+    (tie.spec (λ c. search needs) (λ c. search needs) put-items-line-requires (λ c. search needs) (λ c. search needs) (λ c. search needs) returns)

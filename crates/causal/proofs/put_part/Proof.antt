@@ -31,9 +31,6 @@ slice-write-out c = behind c
 add-result : tie.Need-add-result
 add-result c = omega (arith, behind c)
 
-same-length : tie.Need-same-length
-same-length c = search needs
-
 returns : tie.Need-returns
 returns c =
     let w = c .before .before in
@@ -43,4 +40,5 @@ returns c =
 
 pub put-part-spec : {M : Type 1} → statement M
 put-part-spec =
-    tie.close (tie.spec put-number-requires slice-write-out add-result same-length returns)
+    tie.close
+    (tie.spec put-number-requires slice-write-out add-result (λ c. search needs) returns)

@@ -54,12 +54,6 @@ weights-long n d =
     let tr = element-owned _ _ (b .args .t3 .table) _ (table .1 .1) (fire-at n) d (in-table n) in
     search (needs, tr)
 
-slice-aggregate-give : tie.Need-slice-aggregate-give Inv-loop μ-loop
-slice-aggregate-give c = search needs
-
-slice-aggregate-give-2 : tie.Need-slice-aggregate-give-2 Inv-loop μ-loop
-slice-aggregate-give-2 c = search needs
-
 give-requires : tie.Need-give-requires Inv-loop μ-loop
 give-requires c κs =
     let b = c .before .before .before .before in
@@ -73,12 +67,6 @@ loop-holds c =
     (b .pre .0 .4) (b .pre .0 .0)
     (b .args .out .now) (b .args .at)
 
-mul-t : tie.Need-mul-t Inv-loop μ-loop
-mul-t c = search needs
-
-element-copy-out-t : tie.Need-element-copy-out-t Inv-loop μ-loop
-element-copy-out-t c = search needs
-
 cast-t : tie.Need-cast-t Inv-loop μ-loop
 cast-t c = omega (arith, listed c)
 
@@ -88,17 +76,8 @@ mul-tr c = omega (arith, listed c)
 element-copy-out-tr : tie.Need-element-copy-out-tr Inv-loop μ-loop
 element-copy-out-tr c = listed c
 
-slice-aggregate-put-event : tie.Need-slice-aggregate-put-event Inv-loop μ-loop
-slice-aggregate-put-event c = search needs
-
-slice-aggregate-put-event-2 : tie.Need-slice-aggregate-put-event-2 Inv-loop μ-loop
-slice-aggregate-put-event-2 c = search needs
-
 slice-aggregate-put-event-3 : tie.Need-slice-aggregate-put-event-3 Inv-loop μ-loop
 slice-aggregate-put-event-3 c = sym (weights-long (c .before .before .before .before .before .before .before) _ .0)
-
-add-put-event : tie.Need-add-put-event Inv-loop μ-loop
-add-put-event c = search needs
 
 put-event-requires : tie.Need-put-event-requires Inv-loop μ-loop
 put-event-requires c κs =
@@ -110,15 +89,6 @@ put-event-requires c κs =
       event-room (b .args .t3) (b .args .t4) s (n .loop-test .taken) _ (in-table n)
           (firings-room (b .args .t3) (b .args .t4) (b .args .out .now) (b .args .at) (b .pre .1)),
     )
-
-array-write-linked : tie.Need-array-write-linked Inv-loop μ-loop
-array-write-linked c = search needs
-
-add-i : tie.Need-add-i Inv-loop μ-loop
-add-i c = search needs
-
-slice-aggregate-give-3 : tie.Need-slice-aggregate-give-3 Inv-loop μ-loop
-slice-aggregate-give-3 c = search needs
 
 slice-aggregate-give-4 : tie.Need-slice-aggregate-give-4 Inv-loop μ-loop
 slice-aggregate-give-4 c = sym (weights-long (c .before .before .before .before .before .before .before .before .before .before .before .before .before .before) _ .1)
@@ -135,9 +105,6 @@ give-requires-2 c κs =
       subst (λ (k : ℕ). b .args .t3 .places ≤ k) (sym (weights-long n _ .1)) (b .pre .0 .0),
     )
 
-loop-less : tie.Need-loop-less Inv-loop μ-loop
-loop-less c = search needs
-
 loop-again : tie.Need-loop-again Inv-loop μ-loop
 loop-again c =
     let g = c .before in
@@ -150,15 +117,6 @@ loop-again c =
     (e .put-event .last .1 .1 .1 .1 .0) (e .put-event .last .0) (e .put-event .ensures .0)
     (e .put-event .ensures .1) (g .give2 .last .0) (g .give2 .ensures .1) (g .give2 .ensures .0)
 
-slice-aggregate-put-left : tie.Need-slice-aggregate-put-left Inv-loop μ-loop
-slice-aggregate-put-left c = search needs
-
-slice-aggregate-put-left-2 : tie.Need-slice-aggregate-put-left-2 Inv-loop μ-loop
-slice-aggregate-put-left-2 c = search needs
-
-add-put-left : tie.Need-add-put-left Inv-loop μ-loop
-add-put-left c = search needs
-
 put-left-requires : tie.Need-put-left-requires Inv-loop μ-loop
 put-left-requires c κs =
     let n = c .before .before .before in
@@ -169,9 +127,6 @@ put-left-requires c κs =
       (b .pre .0 .0, omega arith, omega (arith, b .pre .0 .2), s .long .0, s .long .1, end-emptied (b .args .t3) (b .args .t4) s all),
       (end-all (b .args .t3) (b .args .t4) s all, left-room (b .args .t3) (b .args .t4) s all (b .pre .1)),
     )
-
-slice-aggregate-put-free : tie.Need-slice-aggregate-put-free Inv-loop μ-loop
-slice-aggregate-put-free c = search needs
 
 put-free-requires : tie.Need-put-free-requires Inv-loop μ-loop
 put-free-requires c κs =
@@ -209,35 +164,7 @@ same-length c =
 pub put-process-spec : {M : Type 1} → statement M
 put-process-spec =
     tie.close
-    (tie.spec
-    Inv-loop
-    μ-loop
-    slice-aggregate-give
-    slice-aggregate-give-2
-    give-requires
-    loop-holds
-    mul-t
-    element-copy-out-t
-    cast-t
-    mul-tr
-    element-copy-out-tr
-    slice-aggregate-put-event
-    slice-aggregate-put-event-2
-    slice-aggregate-put-event-3
-    add-put-event
-    put-event-requires
-    array-write-linked
-    add-i
-    slice-aggregate-give-3
-    slice-aggregate-give-4
-    give-requires-2
-    loop-less
-    loop-again
-    slice-aggregate-put-left
-    slice-aggregate-put-left-2
-    add-put-left
-    put-left-requires
-    slice-aggregate-put-free
-    put-free-requires
-    same-length
-    returns)
+    (tie.spec Inv-loop μ-loop (λ c. search needs) (λ c. search needs) give-requires loop-holds (λ c. search needs) (λ c. search needs) cast-t mul-tr
+    element-copy-out-tr (λ c. search needs) (λ c. search needs) slice-aggregate-put-event-3 (λ c. search needs) put-event-requires (λ c. search needs)
+    (λ c. search needs) (λ c. search needs) slice-aggregate-give-4 give-requires-2 (λ c. search needs) loop-again (λ c. search needs)
+    (λ c. search needs) (λ c. search needs) put-left-requires (λ c. search needs) put-free-requires same-length returns)

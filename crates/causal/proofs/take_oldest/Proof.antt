@@ -21,9 +21,6 @@ abbrev μ-producers : tie.MeasureT-producers
 μ-producers out₀ begin at counts₀ place head top n base to₀ need₀ last₀ newest₀ i₀ out counts to need last newest i =
     top - i
 
-mul-base : tie.Need-mul-base Inv-producers μ-producers
-mul-base c = search needs
-
 producers-holds : tie.Need-producers-holds Inv-producers μ-producers
 producers-holds c =
     let b = c .before .before in
@@ -35,30 +32,6 @@ producers-holds c =
           (texts-start (a .counts .now) (a .place) (a .top) (a .n) (a .head) (q .2) (q .5))
           (listing-start (a .begin) (a .out .now) (a .at) _ (q .0) (items-long (itemsLeft (a .counts .now) (a .place) (a .top) (a .n) 0 (a .n)))),
     )
-
-add-c : tie.Need-add-c Inv-producers μ-producers
-add-c c = search needs
-
-mul-c : tie.Need-mul-c Inv-producers μ-producers
-mul-c c = search needs
-
-slice-read-c : tie.Need-slice-read-c Inv-producers μ-producers
-slice-read-c c = search needs
-
-lower-requires : tie.Need-lower-requires Inv-producers μ-producers
-lower-requires c κs = search needs
-
-sub-counts : tie.Need-sub-counts Inv-producers μ-producers
-sub-counts c = search needs
-
-add-counts : tie.Need-add-counts Inv-producers μ-producers
-add-counts c = search needs
-
-mul-counts : tie.Need-mul-counts Inv-producers μ-producers
-mul-counts c = search needs
-
-slice-write-counts : tie.Need-slice-write-counts Inv-producers μ-producers
-slice-write-counts c = search needs
 
 put-item-requires : tie.Need-put-item-requires Inv-producers μ-producers
 put-item-requires c κs =
@@ -72,18 +45,6 @@ put-item-requires c κs =
     (texts-next (a .counts .now) (a .place) (a .top) (a .n) (s .0) (t .producers-test .taken) (s .0 .bare-here (w .before .before .if1 .left))
     (w .lower .result) (w .lower .ensures)
     (c .before .if2 .taken))
-
-add-newest : tie.Need-add-newest Inv-producers μ-producers
-add-newest c = search needs
-
-sub-need : tie.Need-sub-need Inv-producers μ-producers
-sub-need c = search needs
-
-add-i : tie.Need-add-i Inv-producers μ-producers
-add-i c = search needs
-
-producers-less : tie.Need-producers-less Inv-producers μ-producers
-producers-less c = search needs
 
 producers-again : tie.Need-producers-again Inv-producers μ-producers
 producers-again c =
@@ -145,28 +106,7 @@ returns-2 c =
 pub take-oldest-spec : {M : Type 1} → statement M
 take-oldest-spec =
     tie.close
-    (tie.spec
-    Inv-producers
-    μ-producers
-    mul-base
-    producers-holds
-    add-c
-    mul-c
-    slice-read-c
-    lower-requires
-    sub-counts
-    add-counts
-    mul-counts
-    slice-write-counts
-    put-item-requires
-    add-newest
-    sub-need
-    add-i
-    producers-less
-    producers-again
-    same-length
-    same-length-2
-    returns
-    same-length-3
-    same-length-4
+    (tie.spec Inv-producers μ-producers (λ c. search needs) producers-holds (λ c. search needs) (λ c. search needs) (λ c. search needs)
+    (λ c κs. search needs) (λ c. search needs) (λ c. search needs) (λ c. search needs) (λ c. search needs) put-item-requires (λ c. search needs)
+    (λ c. search needs) (λ c. search needs) (λ c. search needs) producers-again same-length same-length-2 returns same-length-3 same-length-4
     returns-2)

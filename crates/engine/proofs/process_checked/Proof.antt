@@ -12,15 +12,6 @@ play-run-requires c κs =
     let s = c .before in
     run-within (s .args .net) (s .args .run) (s .pre)
 
-enum-known-c : tie.Need-enum-known-c
-enum-known-c c = search needs
-
-enum-told : tie.Need-enum-told
-enum-told c = search needs
-
-slice-aggregate-put-process : tie.Need-slice-aggregate-put-process
-slice-aggregate-put-process c = search needs
-
 put-process-requires : tie.Need-put-process-requires
 put-process-requires c κs =
     let t = c .before in
@@ -37,17 +28,11 @@ array-share-prefix-text c = front-within (c .before .put-process .ensures)
 slice-aggregate-respond : tie.Need-slice-aggregate-respond
 slice-aggregate-respond c = front-length (c .before .before .put-process .ensures)
 
-respond-requires : tie.Need-respond-requires
-respond-requires c κs = search needs
-
 returns : tie.Need-returns
 returns c =
     let k = c .before .before .before in
     let a = k .before .before .args in
     process-refused (a .net) (a .run) (k .play-run .result) (k .play-run .ensures .0) (a .out .now) (c .before .c .given .1)
-
-same-length : tie.Need-same-length
-same-length c = search needs
 
 returns-2 : tie.Need-returns-2
 returns-2 c =
@@ -61,15 +46,5 @@ returns-2 c =
 pub process-checked-spec : {M : Type 1} → statement M
 process-checked-spec =
     tie.close
-    (tie.spec
-    play-run-requires
-    enum-known-c
-    enum-told
-    slice-aggregate-put-process
-    put-process-requires
-    array-share-prefix-text
-    slice-aggregate-respond
-    respond-requires
-    returns
-    same-length
-    returns-2)
+    (tie.spec play-run-requires (λ c. search needs) (λ c. search needs) (λ c. search needs) put-process-requires array-share-prefix-text
+    slice-aggregate-respond (λ c κs. search needs) returns (λ c. search needs) returns-2)

@@ -6,12 +6,6 @@ use Rattle.engine.proofs.End.{clockValue}
 use Rattle.engine.proofs.put_clock.Statement.{statement}
 use Rattle.engine.proofs.put_clock.Tie as tie
 
-slice-aggregate-put-bytes : tie.Need-slice-aggregate-put-bytes
-slice-aggregate-put-bytes c = search needs
-
-put-bytes-requires : tie.Need-put-bytes-requires
-put-bytes-requires c κs = search needs
-
 put-field-requires : tie.Need-put-field-requires
 put-field-requires c κs =
     let t = c .before in
@@ -19,9 +13,6 @@ put-field-requires c κs =
     let b = k .before .before .before .before in
     rw (t .if1 .taken) at
     (room-then (b .args .out .now) (b .args .at) clockKey (clockValue (b .args .on) (b .args .clock)) (b .pre) (k .put-bytes .result) (k .put-bytes .last .0) (k .put-bytes .ensures))
-
-slice-aggregate-put-bytes-2 : tie.Need-slice-aggregate-put-bytes-2
-slice-aggregate-put-bytes-2 c = search needs
 
 put-bytes-requires-2 : tie.Need-put-bytes-requires-2
 put-bytes-requires-2 c κs =
@@ -31,9 +22,6 @@ put-bytes-requires-2 c κs =
     rw (t .if1 .left) at
     (room-then (b .args .out .now) (b .args .at) clockKey (clockValue (b .args .on) (b .args .clock)) (b .pre) (k .put-bytes .result) (k .put-bytes .last .0) (k .put-bytes .ensures))
 
-same-length : tie.Need-same-length
-same-length c = search needs
-
 returns : tie.Need-returns
 returns c =
     let f = c .before .before in
@@ -42,9 +30,6 @@ returns c =
     let b = k .before .before .before .before in
     wrote-both (b .args .out .now) (b .args .at) clockKey (clockValue (b .args .on) (b .args .clock)) (b .pre) (k .put-bytes .result) (k .put-bytes .last .0) (k .put-bytes .ensures)
     (f .put-field .result) (f .put-field .last .0) (rw (t .if1 .taken) (f .put-field .ensures))
-
-same-length-2 : tie.Need-same-length-2
-same-length-2 c = search needs
 
 returns-2 : tie.Need-returns-2
 returns-2 c =
@@ -58,13 +43,5 @@ returns-2 c =
 pub put-clock-spec : {M : Type 1} → statement M
 put-clock-spec =
     tie.close
-    (tie.spec
-    slice-aggregate-put-bytes
-    put-bytes-requires
-    put-field-requires
-    slice-aggregate-put-bytes-2
-    put-bytes-requires-2
-    same-length
-    returns
-    same-length-2
-    returns-2)
+    (tie.spec (λ c. search needs) (λ c κs. search needs) put-field-requires (λ c. search needs) put-bytes-requires-2 (λ c. search needs) returns
+    (λ c. search needs) returns-2)

@@ -21,23 +21,11 @@ room f =
     let a = s .args in
     rw (clocks-same (a .net) (a .st) (f .enabled-flags .result) (f .enabled-flags .ensures)) at (s .pre .1)
 
-enabled-flags-requires : tie.Need-enabled-flags-requires Inv-loop μ-loop
-enabled-flags-requires c κs = search needs
-
 loop-holds : tie.Need-loop-holds Inv-loop μ-loop
 loop-holds c =
     let f = c .before in
     let a = f .before .before .args in
     joining-start (clockLine (f .enabled-flags .result) (a .st .since) (a .st .now)) (a .net .transitions) (a .out .now) (a .at)
-
-array-read-put-clock : tie.Need-array-read-put-clock Inv-loop μ-loop
-array-read-put-clock c = search needs
-
-mul-put-clock : tie.Need-mul-put-clock Inv-loop μ-loop
-mul-put-clock c = search needs
-
-array-read-put-clock-2 : tie.Need-array-read-put-clock-2 Inv-loop μ-loop
-array-read-put-clock-2 c = search needs
 
 sub-put-clock : tie.Need-sub-put-clock Inv-loop μ-loop
 sub-put-clock c =
@@ -50,12 +38,6 @@ put-clock-requires c κs =
     let l = c .before in
     let b = l .before in
     joining-room (room (b .before .before)) (b .loop .inv) (l .loop-test .taken)
-
-add-u : tie.Need-add-u Inv-loop μ-loop
-add-u c = search needs
-
-loop-less : tie.Need-loop-less Inv-loop μ-loop
-loop-less c = search needs
 
 loop-again : tie.Need-loop-again Inv-loop μ-loop
 loop-again c =
@@ -79,18 +61,5 @@ returns c =
 pub put-clocks-spec : {M : Type 1} → statement M
 put-clocks-spec =
     tie.close
-    (tie.spec
-    Inv-loop
-    μ-loop
-    enabled-flags-requires
-    loop-holds
-    array-read-put-clock
-    mul-put-clock
-    array-read-put-clock-2
-    sub-put-clock
-    put-clock-requires
-    add-u
-    loop-less
-    loop-again
-    same-length
-    returns)
+    (tie.spec Inv-loop μ-loop (λ c κs. search needs) loop-holds (λ c. search needs) (λ c. search needs) (λ c. search needs) sub-put-clock
+    put-clock-requires (λ c. search needs) (λ c. search needs) loop-again same-length returns)

@@ -16,9 +16,6 @@ use Rattle.engine.proofs.put_end.Tie as tie
 room : (s : tie.Start) → 0 + length (endText (s .args .net) (counted (s .args .net) (s .args .st))) ≤ length (s .args .out .now)
 room s = omega (arith, s .pre .3)
 
-slice-aggregate-put-items-line : tie.Need-slice-aggregate-put-items-line
-slice-aggregate-put-items-line c = search needs
-
 put-items-line-requires : tie.Need-put-items-line-requires
 put-items-line-requires c κs =
     let s = c .before .before .before .before in
@@ -37,9 +34,6 @@ put-clocks-requires c κs =
           (k .put-items-line .last .0) (k .put-items-line .ensures),
     )
 
-same-length : tie.Need-same-length
-same-length c = search needs
-
 returns : tie.Need-returns
 returns c =
     let f = c .before .before in
@@ -53,9 +47,4 @@ returns c =
 pub put-end-spec : {M : Type 1} → statement M
 put-end-spec =
     tie.close
-    (tie.spec
-    slice-aggregate-put-items-line
-    put-items-line-requires
-    put-clocks-requires
-    same-length
-    returns)
+    (tie.spec (λ c. search needs) put-items-line-requires put-clocks-requires (λ c. search needs) returns)

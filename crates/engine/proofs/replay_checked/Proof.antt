@@ -11,21 +11,6 @@ play-run-requires c κs =
     let s = c .before in
     run-within (s .args .net) (s .args .run) (s .pre)
 
-enum-known-c : tie.Need-enum-known-c
-enum-known-c c = search needs
-
-enum-told : tie.Need-enum-told
-enum-told c = search needs
-
-cast-st : tie.Need-cast-st
-cast-st c = search needs
-
-add-st : tie.Need-add-st
-add-st c = search needs
-
-slice-aggregate-put-end : tie.Need-slice-aggregate-put-end
-slice-aggregate-put-end c = search needs
-
 put-end-requires : tie.Need-put-end-requires
 put-end-requires c κs =
     let k = c .before .before .before .before .before .before in
@@ -38,17 +23,11 @@ array-share-prefix-text c = front-within (c .before .put-end .ensures)
 slice-aggregate-respond : tie.Need-slice-aggregate-respond
 slice-aggregate-respond c = front-length (c .before .before .put-end .ensures)
 
-respond-requires : tie.Need-respond-requires
-respond-requires c κs = search needs
-
 returns : tie.Need-returns
 returns c =
     let k = c .before .before .before in
     let a = k .before .before .args in
     replay-refused (a .net) (a .run) (k .play-run .result) (k .play-run .ensures .0) (a .out .now) (c .before .c .given .1)
-
-same-length : tie.Need-same-length
-same-length c = search needs
 
 returns-2 : tie.Need-returns-2
 returns-2 c =
@@ -62,17 +41,5 @@ returns-2 c =
 pub replay-checked-spec : {M : Type 1} → statement M
 replay-checked-spec =
     tie.close
-    (tie.spec
-    play-run-requires
-    enum-known-c
-    enum-told
-    cast-st
-    add-st
-    slice-aggregate-put-end
-    put-end-requires
-    array-share-prefix-text
-    slice-aggregate-respond
-    respond-requires
-    returns
-    same-length
-    returns-2)
+    (tie.spec play-run-requires (λ c. search needs) (λ c. search needs) (λ c. search needs) (λ c. search needs) (λ c. search needs) put-end-requires
+    array-share-prefix-text slice-aggregate-respond (λ c κs. search needs) returns (λ c. search needs) returns-2)

@@ -6,15 +6,6 @@ use Rattle.engine.proofs.Outcome.{check-refused, check-passed}
 use Rattle.engine.proofs.round.Statement.{statement}
 use Rattle.engine.proofs.round.Tie as tie
 
-check-run-requires : tie.Need-check-run-requires
-check-run-requires c κs = search needs
-
-enum-known-c : tie.Need-enum-known-c
-enum-known-c c = search needs
-
-enum-told : tie.Need-enum-told
-enum-told c = search needs
-
 round-checked-requires : tie.Need-round-checked-requires
 round-checked-requires c κs =
     let t = c .before in
@@ -25,9 +16,6 @@ returns c =
     let k = c .before .before .before in
     let a = k .before .before .args in
     check-refused (roundOf (a .net) (a .run)) (a .out .now) (sym (k .check-run .ensures) ∙ c .before .c .given .1)
-
-same-length : tie.Need-same-length
-same-length c = search needs
 
 returns-2 : tie.Need-returns-2
 returns-2 c =
@@ -40,11 +28,4 @@ returns-2 c =
 pub round-spec : {M : Type 1} → statement M
 round-spec =
     tie.close
-    (tie.spec
-    check-run-requires
-    enum-known-c
-    enum-told
-    round-checked-requires
-    returns
-    same-length
-    returns-2)
+    (tie.spec (λ c κs. search needs) (λ c. search needs) (λ c. search needs) round-checked-requires returns (λ c. search needs) returns-2)

@@ -6,15 +6,6 @@ use Rattle.engine.proofs.Outcome.{cards-refused, cards-found}
 use Rattle.engine.proofs.round_cards.Statement.{statement}
 use Rattle.engine.proofs.round_cards.Tie as tie
 
-read-run-cards-requires : tie.Need-read-run-cards-requires
-read-run-cards-requires c κs = search needs
-
-enum-known-read : tie.Need-enum-known-read
-enum-known-read c = search needs
-
-enum-told : tie.Need-enum-told
-enum-told c = search needs
-
 round-checked-requires : tie.Need-round-checked-requires
 round-checked-requires c κs =
     let t = c .before .before .before in
@@ -28,9 +19,6 @@ returns c =
     let a = k .before .before .before .args in
     cards-refused (λ v. roundOf (v .0) (v .1)) (a .out .now) (run-input-stopped (a .input .now) (k .read-run-cards .ensures) (c .before .read .given .1))
 
-same-length : tie.Need-same-length
-same-length c = search needs
-
 returns-2 : tie.Need-returns-2
 returns-2 c =
     let f = c .before .before in
@@ -42,11 +30,4 @@ returns-2 c =
 pub round-cards-spec : {M : Type 1} → statement M
 round-cards-spec =
     tie.close
-    (tie.spec
-    read-run-cards-requires
-    enum-known-read
-    enum-told
-    round-checked-requires
-    returns
-    same-length
-    returns-2)
+    (tie.spec (λ c κs. search needs) (λ c. search needs) (λ c. search needs) round-checked-requires returns (λ c. search needs) returns-2)

@@ -10,12 +10,6 @@ play-run-requires c κs =
     let s = c .before in
     run-within (s .args .net) (s .args .run) (s .pre)
 
-enum-known-c : tie.Need-enum-known-c
-enum-known-c c = search needs
-
-enum-told : tie.Need-enum-told
-enum-told c = search needs
-
 rounded-run-requires : tie.Need-rounded-run-requires
 rounded-run-requires c κs =
     let s = c .before .before .before .before in
@@ -33,9 +27,6 @@ returns c =
     let a = k .before .before .args in
     round-refused (a .net) (a .run) (k .play-run .result) (k .play-run .ensures .0) (a .out .now) (c .before .c .given .1)
 
-same-length : tie.Need-same-length
-same-length c = search needs
-
 returns-2 : tie.Need-returns-2
 returns-2 c =
     let f = c .before .before in
@@ -49,12 +40,5 @@ returns-2 c =
 pub round-checked-spec : {M : Type 1} → statement M
 round-checked-spec =
     tie.close
-    (tie.spec
-    play-run-requires
-    enum-known-c
-    enum-told
-    rounded-run-requires
-    respond-run-requires
-    returns
-    same-length
+    (tie.spec play-run-requires (λ c. search needs) (λ c. search needs) rounded-run-requires respond-run-requires returns (λ c. search needs)
     returns-2)

@@ -6,15 +6,6 @@ use Rattle.engine.proofs.Outcome.{cards-refused, cards-found}
 use Rattle.engine.proofs.timetable_cards.Statement.{statement}
 use Rattle.engine.proofs.timetable_cards.Tie as tie
 
-read-order-cards-requires : tie.Need-read-order-cards-requires
-read-order-cards-requires c κs = search needs
-
-enum-known-read : tie.Need-enum-known-read
-enum-known-read c = search needs
-
-enum-told : tie.Need-enum-told
-enum-told c = search needs
-
 timetable-checked-requires : tie.Need-timetable-checked-requires
 timetable-checked-requires c κs =
     let t = c .before .before .before in
@@ -29,9 +20,6 @@ returns c =
     cards-refused (λ v. timetableOf (v .0) (v .1)) (a .out .now)
     (order-input-stopped (a .input .now) (k .read-order-cards .ensures) (c .before .read .given .1))
 
-same-length : tie.Need-same-length
-same-length c = search needs
-
 returns-2 : tie.Need-returns-2
 returns-2 c =
     let f = c .before .before in
@@ -44,11 +32,4 @@ returns-2 c =
 pub timetable-cards-spec : {M : Type 1} → statement M
 timetable-cards-spec =
     tie.close
-    (tie.spec
-    read-order-cards-requires
-    enum-known-read
-    enum-told
-    timetable-checked-requires
-    returns
-    same-length
-    returns-2)
+    (tie.spec (λ c κs. search needs) (λ c. search needs) (λ c. search needs) timetable-checked-requires returns (λ c. search needs) returns-2)

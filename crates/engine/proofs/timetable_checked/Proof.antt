@@ -12,12 +12,6 @@ collect-requires c κs =
     let s = c .before in
     order-within (s .args .net) (s .args .order) (s .pre)
 
-enum-known-c : tie.Need-enum-known-c
-enum-known-c c = search needs
-
-enum-told : tie.Need-enum-told
-enum-told c = search needs
-
 slice-aggregate-find-earliest : tie.Need-slice-aggregate-find-earliest
 slice-aggregate-find-earliest c = search needs
 
@@ -72,9 +66,6 @@ returns-2 c =
     let a = k .before .before .args in
     timetable-refused (a .net) (a .order) (k .collect .result) (k .collect .ensures) (a .out .now) (c .before .c .given .1)
 
-same-length : tie.Need-same-length
-same-length c = search needs
-
 returns-3 : tie.Need-returns-3
 returns-3 c =
     let g = c .before .before in
@@ -85,18 +76,6 @@ returns-3 c =
 pub timetable-checked-spec : {M : Type 1} → statement M
 timetable-checked-spec =
     tie.close
-    (tie.spec
-    collect-requires
-    enum-known-c
-    enum-told
-    slice-aggregate-find-earliest
-    slice-aggregate-find-earliest-2
-    slice-aggregate-find-earliest-3
-    slice-aggregate-find-earliest-4
-    find-earliest-requires
-    returns
-    timetable-run-requires
-    respond-run-requires
-    returns-2
-    same-length
-    returns-3)
+    (tie.spec collect-requires (λ c. search needs) (λ c. search needs) slice-aggregate-find-earliest slice-aggregate-find-earliest-2
+    slice-aggregate-find-earliest-3 slice-aggregate-find-earliest-4 find-earliest-requires returns timetable-run-requires respond-run-requires
+    returns-2 (λ c. search needs) returns-3)

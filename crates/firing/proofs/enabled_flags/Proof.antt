@@ -30,24 +30,6 @@ loop-holds c =
     let a = c .before .before .args in
     (search needs, fill-start false (replicate 32 false) (λ t. enoughIn (getD (a .net .table) t noTransition .take) 0 (a .st .marking) (a .net .places)))
 
-mul-tr : tie.Need-mul-tr Inv-loop μ-loop
-mul-tr c = search needs
-
-array-copy-out-tr : tie.Need-array-copy-out-tr Inv-loop μ-loop
-array-copy-out-tr c = search needs
-
-enough-for-requires : tie.Need-enough-for-requires Inv-loop μ-loop
-enough-for-requires c κs = search needs
-
-array-write-flags : tie.Need-array-write-flags Inv-loop μ-loop
-array-write-flags c = search needs
-
-add-u : tie.Need-add-u Inv-loop μ-loop
-add-u c = search needs
-
-loop-less : tie.Need-loop-less Inv-loop μ-loop
-loop-less c = search needs
-
 loop-again : tie.Need-loop-again Inv-loop μ-loop
 loop-again c =
     let b = c .before .before .before .before in
@@ -66,15 +48,5 @@ returns c u l =
 pub enabled-flags-spec : {M : Type 1} → statement M
 enabled-flags-spec =
     tie.close
-    (tie.spec
-    Inv-loop
-    μ-loop
-    loop-holds
-    mul-tr
-    array-copy-out-tr
-    enough-for-requires
-    array-write-flags
-    add-u
-    loop-less
-    loop-again
-    returns)
+    (tie.spec Inv-loop μ-loop loop-holds (λ c. search needs) (λ c. search needs) (λ c κs. search needs) (λ c. search needs) (λ c. search needs)
+    (λ c. search needs) loop-again returns)

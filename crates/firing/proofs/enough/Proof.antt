@@ -18,21 +18,6 @@ abbrev μ-places : tie.MeasureT-places
 places-holds : tie.Need-places-holds Inv-places μ-places
 places-holds c = scan-start (hasEnough (c .args .take .now) (c .args .row) (c .args .marking .now)) (c .args .places)
 
-shared-slice-read-if1 : tie.Need-shared-slice-read-if1 Inv-places μ-places
-shared-slice-read-if1 c = search needs
-
-add-if1 : tie.Need-add-if1 Inv-places μ-places
-add-if1 c = search needs
-
-shared-slice-read-if1-2 : tie.Need-shared-slice-read-if1-2 Inv-places μ-places
-shared-slice-read-if1-2 c = search needs
-
-add-p : tie.Need-add-p Inv-places μ-places
-add-p c = search needs
-
-places-less : tie.Need-places-less Inv-places μ-places
-places-less c = search needs
-
 places-again : tie.Need-places-again Inv-places μ-places
 places-again c =
     let b = c .before .before .before in
@@ -52,15 +37,5 @@ returns-2 c =
 pub enough-spec : {M : Type 1} → statement M
 enough-spec =
     tie.close
-    (tie.spec
-    Inv-places
-    μ-places
-    places-holds
-    shared-slice-read-if1
-    add-if1
-    shared-slice-read-if1-2
-    add-p
-    places-less
-    places-again
-    returns
-    returns-2)
+    (tie.spec Inv-places μ-places places-holds (λ c. search needs) (λ c. search needs) (λ c. search needs) (λ c. search needs) (λ c. search needs)
+    places-again returns returns-2)

@@ -19,24 +19,6 @@ abbrev μ-places : tie.MeasureT-places
 places-holds : tie.Need-places-holds Inv-places μ-places
 places-holds c = scan-start (hasEnough (c .args .t1) 0 (c .args .t2)) (c .args .places)
 
-mul-if1 : tie.Need-mul-if1 Inv-places μ-places
-mul-if1 c = search needs
-
-array-read-if1 : tie.Need-array-read-if1 Inv-places μ-places
-array-read-if1 c = search needs
-
-mul-if1-2 : tie.Need-mul-if1-2 Inv-places μ-places
-mul-if1-2 c = search needs
-
-array-read-if1-2 : tie.Need-array-read-if1-2 Inv-places μ-places
-array-read-if1-2 c = search needs
-
-add-p : tie.Need-add-p Inv-places μ-places
-add-p c = search needs
-
-places-less : tie.Need-places-less Inv-places μ-places
-places-less c = search needs
-
 places-again : tie.Need-places-again Inv-places μ-places
 places-again c =
     let b = c .before in
@@ -56,16 +38,5 @@ returns-2 c =
 pub enough-for-spec : {M : Type 1} → statement M
 enough-for-spec =
     tie.close
-    (tie.spec
-    Inv-places
-    μ-places
-    places-holds
-    mul-if1
-    array-read-if1
-    mul-if1-2
-    array-read-if1-2
-    add-p
-    places-less
-    places-again
-    returns
-    returns-2)
+    (tie.spec Inv-places μ-places places-holds (λ c. search needs) (λ c. search needs) (λ c. search needs) (λ c. search needs) (λ c. search needs)
+    (λ c. search needs) places-again returns returns-2)

@@ -24,47 +24,14 @@ moved w =
     (v .1 .given .1) (v .4 .ensures .0)))
     (w .match .came)
 
-enum-told : tie.Need-enum-told
-enum-told c = search needs
-
-mul-move-by-middle : tie.Need-mul-move-by-middle
-mul-move-by-middle c = search needs
-
-slice-aggregate-move-by-middle : tie.Need-slice-aggregate-move-by-middle
-slice-aggregate-move-by-middle c = search needs
-
-move-by-middle-requires : tie.Need-move-by-middle-requires
-move-by-middle-requires c κs = search needs
-
-enum-told-2 : tie.Need-enum-told-2
-enum-told-2 c = search needs
-
-mul-move-from-before : tie.Need-mul-move-from-before
-mul-move-from-before c = search needs
-
-slice-aggregate-move-from-before : tie.Need-slice-aggregate-move-from-before
-slice-aggregate-move-from-before c = search needs
-
-move-from-before-requires : tie.Need-move-from-before-requires
-move-from-before-requires c κs = search needs
-
-mul-mark-short : tie.Need-mul-mark-short
-mul-mark-short c = search needs
-
 slice-aggregate-mark-short : tie.Need-slice-aggregate-mark-short
 slice-aggregate-mark-short c = sym (moved (c .before) .wide)
-
-slice-aggregate-mark-short-2 : tie.Need-slice-aggregate-mark-short-2
-slice-aggregate-mark-short-2 c = search needs
 
 mark-short-requires : tie.Need-mark-short-requires
 mark-short-requires c κs =
     let w = c .before .before in
     let s = w .before .before .before .before .before .before in
     (omega (arith, s .pre .0), omega (arith, s .pre .0), omega (arith, s .pre .0, moved w .wide), omega arith)
-
-slice-aggregate-restart-short : tie.Need-slice-aggregate-restart-short
-slice-aggregate-restart-short c = search needs
 
 restart-short-requires : tie.Need-restart-short-requires
 restart-short-requires c κs =
@@ -73,26 +40,14 @@ restart-short-requires c κs =
     let s = w .before .before .before .before .before .before in
     (s .pre .0 .2, omega (arith, s .pre .0, moved w .long), omega (arith, k .mark-short .kept .1 .1 .1 .1 .1 .0), omega (arith, s .pre .0))
 
-mul-covered : tie.Need-mul-covered
-mul-covered c = search needs
-
 covered-requires : tie.Need-covered-requires
 covered-requires c κs =
     let w = c .before .before .before .before .before .before .before .before .before .before .before in
     let s = w .before .before .before .before .before .before in
     (omega (arith, s .pre .0), omega (arith, s .pre .0, moved w .long))
 
-mul-since : tie.Need-mul-since
-mul-since c = search needs
-
-slice-write-since : tie.Need-slice-write-since
-slice-write-since c = search needs
-
 same-length : tie.Need-same-length
 same-length c = moved (c .before .before .before .before .before .before .before .before .before .before .before .before .before) .long
-
-same-length-2 : tie.Need-same-length-2
-same-length-2 c = search needs
 
 returns : tie.Need-returns
 returns c =
@@ -115,9 +70,6 @@ returns c =
 same-length-3 : tie.Need-same-length-3
 same-length-3 c = moved (c .before .before .before .before .before .before .before .before .before .before .before .before .before) .long
 
-same-length-4 : tie.Need-same-length-4
-same-length-4 c = search needs
-
 returns-2 : tie.Need-returns-2
 returns-2 c =
     let r = c .before .before .before .before .before in
@@ -139,28 +91,7 @@ returns-2 c =
 pub fire-spec : {M : Type 1} → statement M
 fire-spec =
     tie.close
-    (tie.spec
-    enum-told
-    mul-move-by-middle
-    slice-aggregate-move-by-middle
-    move-by-middle-requires
-    enum-told-2
-    mul-move-from-before
-    slice-aggregate-move-from-before
-    move-from-before-requires
-    mul-mark-short
-    slice-aggregate-mark-short
-    slice-aggregate-mark-short-2
-    mark-short-requires
-    slice-aggregate-restart-short
-    restart-short-requires
-    mul-covered
-    covered-requires
-    mul-since
-    slice-write-since
-    same-length
-    same-length-2
-    returns
-    same-length-3
-    same-length-4
-    returns-2)
+    (tie.spec (λ c. search needs) (λ c. search needs) (λ c. search needs) (λ c κs. search needs) (λ c. search needs) (λ c. search needs)
+    (λ c. search needs) (λ c κs. search needs) (λ c. search needs) slice-aggregate-mark-short (λ c. search needs) mark-short-requires
+    (λ c. search needs) restart-short-requires (λ c. search needs) covered-requires (λ c. search needs) (λ c. search needs) same-length
+    (λ c. search needs) returns same-length-3 (λ c. search needs) returns-2)

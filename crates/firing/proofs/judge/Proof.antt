@@ -6,18 +6,6 @@ use Rattle.firing.specs.Rows.{judgedIn}
 use Rattle.firing.proofs.judge.Statement.{statement}
 use Rattle.firing.proofs.judge.Tie as tie
 
-mul-enough : tie.Need-mul-enough
-mul-enough c = search needs
-
-enough-requires : tie.Need-enough-requires
-enough-requires c κs = search needs
-
-on-time-requires : tie.Need-on-time-requires
-on-time-requires c κs = search needs
-
-mul-within-limit : tie.Need-mul-within-limit
-mul-within-limit c = search needs
-
 within-limit-requires : tie.Need-within-limit-requires
 within-limit-requires c κs =
     let e = c .before .before in
@@ -53,13 +41,5 @@ returns-4 c = rw (sym (c .before .enough .ensures) ∙ c .if1 .left) refl
 pub judge-spec : {M : Type 1} → statement M
 judge-spec =
     tie.close
-    (tie.spec
-    mul-enough
-    enough-requires
-    on-time-requires
-    mul-within-limit
-    within-limit-requires
-    returns
-    returns-2
-    returns-3
+    (tie.spec (λ c. search needs) (λ c κs. search needs) (λ c κs. search needs) (λ c. search needs) within-limit-requires returns returns-2 returns-3
     returns-4)

@@ -19,30 +19,12 @@ loop-holds c =
     let a = c .before .before .before .before .args in
     marked-start (a .give .now) (a .row) (a .column .now) (a .looked .now) (a .places) (a .short .now)
 
-add-if1 : tie.Need-add-if1 Inv-loop μ-loop
-add-if1 c = search needs
-
-shared-slice-read-if1 : tie.Need-shared-slice-read-if1 Inv-loop μ-loop
-shared-slice-read-if1 c = search needs
-
-mul-mark-short-at : tie.Need-mul-mark-short-at Inv-loop μ-loop
-mul-mark-short-at c = search needs
-
-shared-slice-read-mark-short-at : tie.Need-shared-slice-read-mark-short-at Inv-loop μ-loop
-shared-slice-read-mark-short-at c = search needs
-
 mark-short-at-requires : tie.Need-mark-short-at-requires Inv-loop μ-loop
 mark-short-at-requires c κs =
     let l = c .before .before .before .before in
     let b = l .before in
     let s = b .before .before .before .before .before in
     (omega (arith, l .loop-test .taken, s .pre), omega (arith, b .loop .inv .long, s .pre))
-
-add-p : tie.Need-add-p Inv-loop μ-loop
-add-p c = search needs
-
-loop-less : tie.Need-loop-less Inv-loop μ-loop
-loop-less c = search needs
 
 loop-again : tie.Need-loop-again Inv-loop μ-loop
 loop-again c =
@@ -69,17 +51,5 @@ returns c u l =
 pub mark-short-spec : {M : Type 1} → statement M
 mark-short-spec =
     tie.close
-    (tie.spec
-    Inv-loop
-    μ-loop
-    loop-holds
-    add-if1
-    shared-slice-read-if1
-    mul-mark-short-at
-    shared-slice-read-mark-short-at
-    mark-short-at-requires
-    add-p
-    loop-less
-    loop-again
-    same-length
-    returns)
+    (tie.spec Inv-loop μ-loop loop-holds (λ c. search needs) (λ c. search needs) (λ c. search needs) (λ c. search needs) mark-short-at-requires
+    (λ c. search needs) (λ c. search needs) loop-again same-length returns)

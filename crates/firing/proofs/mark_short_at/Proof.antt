@@ -21,22 +21,10 @@ abbrev μ-loop : tie.MeasureT-loop
 loop-holds : tie.Need-loop-holds Inv-loop μ-loop
 loop-holds c = (search needs, fill-start false (c .args .short .now) (λ k. getD (c .args .short .now) k false || ltb (c .args .m) (getD (c .args .column .now) (c .args .row + k) 0)))
 
-add-if1 : tie.Need-add-if1 Inv-loop μ-loop
-add-if1 c = search needs
-
-shared-slice-read-if1 : tie.Need-shared-slice-read-if1 Inv-loop μ-loop
-shared-slice-read-if1 c = search needs
-
 slice-write-short : tie.Need-slice-write-short Inv-loop μ-loop
 slice-write-short c =
     let b = c .before .before .before in
     omega (arith, b .loop .inv .1 .long)
-
-add-u : tie.Need-add-u Inv-loop μ-loop
-add-u c = search needs
-
-loop-less : tie.Need-loop-less Inv-loop μ-loop
-loop-less c = search needs
 
 loop-again : tie.Need-loop-again Inv-loop μ-loop
 loop-again c =
@@ -59,15 +47,5 @@ returns c u l = c .before .loop .inv .1 .passed u (omega arith)
 pub mark-short-at-spec : {M : Type 1} → statement M
 mark-short-at-spec =
     tie.close
-    (tie.spec
-    Inv-loop
-    μ-loop
-    loop-holds
-    add-if1
-    shared-slice-read-if1
-    slice-write-short
-    add-u
-    loop-less
-    loop-again
-    same-length
-    returns)
+    (tie.spec Inv-loop μ-loop loop-holds (λ c. search needs) (λ c. search needs) slice-write-short (λ c. search needs) (λ c. search needs) loop-again
+    same-length returns)

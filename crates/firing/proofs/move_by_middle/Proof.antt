@@ -28,12 +28,6 @@ slice-read-left c =
     let inv = c .before .before .loop .inv in
     omega (arith, inv .2 .long)
 
-add-left : tie.Need-add-left Inv-loop μ-loop
-add-left c = search needs
-
-shared-slice-read-left : tie.Need-shared-slice-read-left Inv-loop μ-loop
-shared-slice-read-left c = search needs
-
 sub-left : tie.Need-sub-left Inv-loop μ-loop
 sub-left c =
     let l = c .before .before in
@@ -46,12 +40,6 @@ slice-write-looked : tie.Need-slice-write-looked Inv-loop μ-loop
 slice-write-looked c =
     let inv = c .before .before .before .loop .inv in
     omega (arith, inv .1 .long)
-
-add-marking : tie.Need-add-marking Inv-loop μ-loop
-add-marking c = search needs
-
-shared-slice-read-marking : tie.Need-shared-slice-read-marking Inv-loop μ-loop
-shared-slice-read-marking c = search needs
 
 add-marking-2 : tie.Need-add-marking-2 Inv-loop μ-loop
 add-marking-2 c =
@@ -66,12 +54,6 @@ slice-write-marking : tie.Need-slice-write-marking Inv-loop μ-loop
 slice-write-marking c =
     let inv = c .before .before .before .before .loop .inv in
     omega (arith, inv .2 .long)
-
-add-p : tie.Need-add-p Inv-loop μ-loop
-add-p c = search needs
-
-loop-less : tie.Need-loop-less Inv-loop μ-loop
-loop-less c = search needs
 
 loop-again : tie.Need-loop-again Inv-loop μ-loop
 loop-again c =
@@ -97,22 +79,5 @@ returns c =
 pub move-by-middle-spec : {M : Type 1} → statement M
 move-by-middle-spec =
     tie.close
-    (tie.spec
-    Inv-loop
-    μ-loop
-    loop-holds
-    slice-read-left
-    add-left
-    shared-slice-read-left
-    sub-left
-    slice-write-looked
-    add-marking
-    shared-slice-read-marking
-    add-marking-2
-    slice-write-marking
-    add-p
-    loop-less
-    loop-again
-    same-length
-    same-length-2
-    returns)
+    (tie.spec Inv-loop μ-loop loop-holds slice-read-left (λ c. search needs) (λ c. search needs) sub-left slice-write-looked (λ c. search needs)
+    (λ c. search needs) add-marking-2 slice-write-marking (λ c. search needs) (λ c. search needs) loop-again same-length same-length-2 returns)

@@ -35,12 +35,6 @@ slice-write-looked c =
     let inv = c .before .before .loop .inv in
     omega (arith, inv .1 .long)
 
-add-marking : tie.Need-add-marking Inv-loop μ-loop
-add-marking c = search needs
-
-shared-slice-read-marking : tie.Need-shared-slice-read-marking Inv-loop μ-loop
-shared-slice-read-marking c = search needs
-
 sub-marking : tie.Need-sub-marking Inv-loop μ-loop
 sub-marking c =
     let l = c .before .before in
@@ -48,12 +42,6 @@ sub-marking c =
     let s = b .before in
     let had = b .loop .inv .2 .left (b .loop .p) (omega arith) in
     omega (arith, enough-at (s .args .take .now) (s .args .row) (s .args .marking .now) (s .args .places) (b .loop .p) (s .pre .1 .0) (l .loop-test .taken))
-
-add-marking-2 : tie.Need-add-marking-2 Inv-loop μ-loop
-add-marking-2 c = search needs
-
-shared-slice-read-marking-2 : tie.Need-shared-slice-read-marking-2 Inv-loop μ-loop
-shared-slice-read-marking-2 c = search needs
 
 add-marking-3 : tie.Need-add-marking-3 Inv-loop μ-loop
 add-marking-3 c =
@@ -68,12 +56,6 @@ slice-write-marking : tie.Need-slice-write-marking Inv-loop μ-loop
 slice-write-marking c =
     let inv = c .before .before .before .before .loop .inv in
     omega (arith, inv .2 .long)
-
-add-p : tie.Need-add-p Inv-loop μ-loop
-add-p c = search needs
-
-loop-less : tie.Need-loop-less Inv-loop μ-loop
-loop-less c = search needs
 
 loop-again : tie.Need-loop-again Inv-loop μ-loop
 loop-again c =
@@ -102,22 +84,5 @@ returns c =
 pub move-from-before-spec : {M : Type 1} → statement M
 move-from-before-spec =
     tie.close
-    (tie.spec
-    Inv-loop
-    μ-loop
-    loop-holds
-    slice-read-had
-    slice-write-looked
-    add-marking
-    shared-slice-read-marking
-    sub-marking
-    add-marking-2
-    shared-slice-read-marking-2
-    add-marking-3
-    slice-write-marking
-    add-p
-    loop-less
-    loop-again
-    same-length
-    same-length-2
-    returns)
+    (tie.spec Inv-loop μ-loop loop-holds slice-read-had slice-write-looked (λ c. search needs) (λ c. search needs) sub-marking (λ c. search needs)
+    (λ c. search needs) add-marking-3 slice-write-marking (λ c. search needs) (λ c. search needs) loop-again same-length same-length-2 returns)

@@ -18,25 +18,10 @@ abbrev μ-loop : tie.MeasureT-loop
 loop-holds : tie.Need-loop-holds Inv-loop μ-loop
 loop-holds c = (search needs, fill-start 0 (replicate 16 0) (λ k. getD (c .args .t1) k 0))
 
-mul-marking : tie.Need-mul-marking Inv-loop μ-loop
-mul-marking c = search needs
-
-array-read-marking : tie.Need-array-read-marking Inv-loop μ-loop
-array-read-marking c = search needs
-
 cast-marking : tie.Need-cast-marking Inv-loop μ-loop
 cast-marking c =
     let b = c .before in
     omega (arith, b .before .pre .1 (b .loop .p) (c .loop-test .taken))
-
-array-write-marking : tie.Need-array-write-marking Inv-loop μ-loop
-array-write-marking c = search needs
-
-add-p : tie.Need-add-p Inv-loop μ-loop
-add-p c = search needs
-
-loop-less : tie.Need-loop-less Inv-loop μ-loop
-loop-less c = search needs
 
 loop-again : tie.Need-loop-again Inv-loop μ-loop
 loop-again c = (search needs, fill-store (c .before .loop .inv .1) _ (omega arith) refl)
@@ -49,15 +34,5 @@ returns c =
 pub narrowed-spec : {M : Type 1} → statement M
 narrowed-spec =
     tie.close
-    (tie.spec
-    Inv-loop
-    μ-loop
-    loop-holds
-    mul-marking
-    array-read-marking
-    cast-marking
-    array-write-marking
-    add-p
-    loop-less
-    loop-again
-    returns)
+    (tie.spec Inv-loop μ-loop loop-holds (λ c. search needs) (λ c. search needs) cast-marking (λ c. search needs) (λ c. search needs)
+    (λ c. search needs) loop-again returns)

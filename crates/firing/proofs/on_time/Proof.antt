@@ -7,9 +7,6 @@ use borrow.Author.Needs.{needs}
 use Rattle.firing.proofs.on_time.Statement.{statement}
 use Rattle.firing.proofs.on_time.Tie as tie
 
-cast-if1 : tie.Need-cast-if1
-cast-if1 c = search needs
-
 mul-if1 : tie.Need-mul-if1
 mul-if1 c =
     let d : c .before .args .denominator ≤ 4294967295 = omega arith in
@@ -18,15 +15,6 @@ mul-if1 c =
 
 returns : tie.Need-returns
 returns c = simp (lt-leb _ _ (c .if1 .taken))
-
-enum-told : tie.Need-enum-told
-enum-told c = search needs
-
-enum-known-latest : tie.Need-enum-known-latest
-enum-known-latest c = search needs
-
-cast-result : tie.Need-cast-result
-cast-result c = search needs
 
 mul-result : tie.Need-mul-result
 mul-result c =
@@ -43,13 +31,4 @@ returns-3 c = simp (le-leb _ _ (c .before .before .before .if1 .left), c .before
 pub on-time-spec : {M : Type 1} → statement M
 on-time-spec =
     tie.close
-    (tie.spec
-    cast-if1
-    mul-if1
-    returns
-    enum-told
-    enum-known-latest
-    cast-result
-    mul-result
-    returns-2
-    returns-3)
+    (tie.spec (λ c. search needs) mul-if1 returns (λ c. search needs) (λ c. search needs) (λ c. search needs) mul-result returns-2 returns-3)

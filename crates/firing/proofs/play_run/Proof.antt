@@ -30,31 +30,10 @@ wait-short q = omega arith
 not-late : (b : tie.At-loop Inv-loop μ-loop) → b .loop .now ≤ 64 * 4294967295
 not-late b = omega (arith, b .loop .inv .soon, b .loop .inv .within, b .before .before .before .before .before .before .before .pre)
 
-rows-of-requires : tie.Need-rows-of-requires Inv-loop μ-loop
-rows-of-requires c κs = search needs
-
-narrowed-requires : tie.Need-narrowed-requires Inv-loop μ-loop
-narrowed-requires c κs = search needs
-
 loop-holds : tie.Need-loop-holds Inv-loop μ-loop
 loop-holds c =
     let a = c .before .before .before .before .before .before .args in
     playing-start (a .t1) (a .t2) (record { marking = c .narrowed .result; since = replicate 32 0; now = 0 }) (c .narrowed .ensures) refl refl (search needs)
-
-mul-f : tie.Need-mul-f Inv-loop μ-loop
-mul-f c = search needs
-
-element-copy-out-f : tie.Need-element-copy-out-f Inv-loop μ-loop
-element-copy-out-f c = search needs
-
-cast-t : tie.Need-cast-t Inv-loop μ-loop
-cast-t c = search needs
-
-add-t31 : tie.Need-add-t31 Inv-loop μ-loop
-add-t31 c = search needs
-
-state-of-requires : tie.Need-state-of-requires Inv-loop μ-loop
-state-of-requires c κs = search needs
 
 returns : tie.Need-returns Inv-loop μ-loop
 returns c =
@@ -66,33 +45,6 @@ returns c =
     rw (c .state-of .ensures)
     (playing-unlisted (a .t1) (a .t2) (record { marking = v .marking; since = v .since; now = v .now }) (v .i) (v .inv) (l .loop-test .taken) (e .if1 .taken), not-late b)
 
-cast-instant : tie.Need-cast-instant Inv-loop μ-loop
-cast-instant c = search needs
-
-add-instant : tie.Need-add-instant Inv-loop μ-loop
-add-instant c = search needs
-
-mul-tr : tie.Need-mul-tr Inv-loop μ-loop
-mul-tr c = search needs
-
-element-copy-out-tr : tie.Need-element-copy-out-tr Inv-loop μ-loop
-element-copy-out-tr c = search needs
-
-slice-aggregate-judge : tie.Need-slice-aggregate-judge Inv-loop μ-loop
-slice-aggregate-judge c = search needs
-
-slice-aggregate-judge-2 : tie.Need-slice-aggregate-judge-2 Inv-loop μ-loop
-slice-aggregate-judge-2 c = search needs
-
-slice-aggregate-judge-3 : tie.Need-slice-aggregate-judge-3 Inv-loop μ-loop
-slice-aggregate-judge-3 c = search needs
-
-mul-judge : tie.Need-mul-judge Inv-loop μ-loop
-mul-judge c = search needs
-
-array-read-judge : tie.Need-array-read-judge Inv-loop μ-loop
-array-read-judge c = search needs
-
 sub-judge : tie.Need-sub-judge Inv-loop μ-loop
 sub-judge c =
     let e = c .before .before .before .before .before in
@@ -101,9 +53,6 @@ sub-judge c =
     let v = b .loop in
     clock-past (s .args .t1) (s .args .t2) (record { marking = v .marking; since = v .since; now = v .now }) (v .i) (v .inv) (e .if1 .left)
 
-add-judge : tie.Need-add-judge Inv-loop μ-loop
-add-judge c = search needs
-
 judge-requires : tie.Need-judge-requires Inv-loop μ-loop
 judge-requires c κs =
     let e = c .before .before .before .before .before in
@@ -111,15 +60,6 @@ judge-requires c κs =
     let w = b .before .before .before .before .before in
     let s = w .before .before in
     (s .pre .0, omega (arith, e .if1 .left, s .pre), rows-long w .0, rows-long w .1, b .loop .inv .long .0)
-
-enum-told : tie.Need-enum-told Inv-loop μ-loop
-enum-told c = search needs
-
-enum-told-2 : tie.Need-enum-told-2 Inv-loop μ-loop
-enum-told-2 c = search needs
-
-state-of-requires-2 : tie.Need-state-of-requires-2 Inv-loop μ-loop
-state-of-requires-2 c κs = search needs
 
 returns-2 : tie.Need-returns-2 Inv-loop μ-loop
 returns-2 c =
@@ -136,9 +76,6 @@ returns-2 c =
       not-late b,
     )
 
-slice-aggregate-fire : tie.Need-slice-aggregate-fire Inv-loop μ-loop
-slice-aggregate-fire c = search needs
-
 slice-aggregate-fire-2 : tie.Need-slice-aggregate-fire-2 Inv-loop μ-loop
 slice-aggregate-fire-2 c =
     let e = c .before .before .before .before .before .before .before .before .before .before in
@@ -148,12 +85,6 @@ slice-aggregate-fire-3 : tie.Need-slice-aggregate-fire-3 Inv-loop μ-loop
 slice-aggregate-fire-3 c =
     let e = c .before .before .before .before .before .before .before .before .before .before .before in
     sym (rows-long (e .before .before .before .before .before .before .before .before .before) .2)
-
-slice-aggregate-fire-4 : tie.Need-slice-aggregate-fire-4 Inv-loop μ-loop
-slice-aggregate-fire-4 c = search needs
-
-slice-aggregate-fire-5 : tie.Need-slice-aggregate-fire-5 Inv-loop μ-loop
-slice-aggregate-fire-5 c = search needs
 
 fire-requires : tie.Need-fire-requires Inv-loop μ-loop
 fire-requires c κs =
@@ -172,9 +103,6 @@ add-i c =
     let l = c .before .before .before .before .before .before .before .before .before .before .before .before .before .before .before .before .before .before .before in
     omega (arith, l .loop-test .taken, l .before .before .before .before .before .before .before .before .pre)
 
-loop-less : tie.Need-loop-less Inv-loop μ-loop
-loop-less c = search needs
-
 loop-again : tie.Need-loop-again Inv-loop μ-loop
 loop-again c =
     let f = c .before .before in
@@ -190,9 +118,6 @@ loop-again c =
     playing-more (s .args .t1) (s .args .t2) (record { marking = v .marking; since = v .since; now = v .now }) (v .i) (v .inv) (w .rows-of .result)
     (w .rows-of .ensures) (l .loop-test .taken) (e .if1 .left) (s .pre .1) _ (j .judge .result) (j .judge .ensures) (p .enum-told .given .1) (wait-short q) _ (f .fire .ensures)
 
-state-of-requires-3 : tie.Need-state-of-requires-3 Inv-loop μ-loop
-state-of-requires-3 c κs = search needs
-
 returns-3 : tie.Need-returns-3 Inv-loop μ-loop
 returns-3 c =
     let b = c .before .before in
@@ -204,42 +129,8 @@ returns-3 c =
 pub play-run-spec : {M : Type 1} → statement M
 play-run-spec =
     tie.close
-    (tie.spec
-    Inv-loop
-    μ-loop
-    rows-of-requires
-    narrowed-requires
-    loop-holds
-    mul-f
-    element-copy-out-f
-    cast-t
-    add-t31
-    state-of-requires
-    returns
-    cast-instant
-    add-instant
-    mul-tr
-    element-copy-out-tr
-    slice-aggregate-judge
-    slice-aggregate-judge-2
-    slice-aggregate-judge-3
-    mul-judge
-    array-read-judge
-    sub-judge
-    add-judge
-    judge-requires
-    enum-told
-    enum-told-2
-    state-of-requires-2
-    returns-2
-    slice-aggregate-fire
-    slice-aggregate-fire-2
-    slice-aggregate-fire-3
-    slice-aggregate-fire-4
-    slice-aggregate-fire-5
-    fire-requires
-    add-i
-    loop-less
-    loop-again
-    state-of-requires-3
-    returns-3)
+    (tie.spec Inv-loop μ-loop (λ c κs. search needs) (λ c κs. search needs) loop-holds (λ c. search needs) (λ c. search needs) (λ c. search needs)
+    (λ c. search needs) (λ c κs. search needs) returns (λ c. search needs) (λ c. search needs) (λ c. search needs) (λ c. search needs)
+    (λ c. search needs) (λ c. search needs) (λ c. search needs) (λ c. search needs) (λ c. search needs) sub-judge (λ c. search needs) judge-requires
+    (λ c. search needs) (λ c. search needs) (λ c κs. search needs) returns-2 (λ c. search needs) slice-aggregate-fire-2 slice-aggregate-fire-3
+    (λ c. search needs) (λ c. search needs) fire-requires add-i (λ c. search needs) loop-again (λ c κs. search needs) returns-3)

@@ -18,33 +18,15 @@ abbrev μ-loop : tie.MeasureT-loop
 loop-holds : tie.Need-loop-holds Inv-loop μ-loop
 loop-holds c = (search needs, stored-start 0 (c .args .flat .now) (λ k. 32 * k + c .args .t) (λ k. getD (c .args .t3) k 0))
 
-mul-flat : tie.Need-mul-flat Inv-loop μ-loop
-mul-flat c = search needs
-
-array-read-flat : tie.Need-array-read-flat Inv-loop μ-loop
-array-read-flat c = search needs
-
 cast-flat : tie.Need-cast-flat Inv-loop μ-loop
 cast-flat c =
     let b = c .before in
     omega (arith, b .before .pre .3 (b .loop .p) (c .loop-test .taken))
 
-mul-flat-2 : tie.Need-mul-flat-2 Inv-loop μ-loop
-mul-flat-2 c = search needs
-
-add-flat : tie.Need-add-flat Inv-loop μ-loop
-add-flat c = search needs
-
 slice-write-flat : tie.Need-slice-write-flat Inv-loop μ-loop
 slice-write-flat c =
     let b = c .before in
     omega (arith, b .loop .inv .1 .long)
-
-add-p : tie.Need-add-p Inv-loop μ-loop
-add-p c = search needs
-
-loop-less : tie.Need-loop-less Inv-loop μ-loop
-loop-less c = search needs
 
 loop-again : tie.Need-loop-again Inv-loop μ-loop
 loop-again c = (search needs, stored-more (c .before .loop .inv .1) (λ k l e. omega arith) _ (omega arith) refl)
@@ -61,18 +43,5 @@ returns c =
 pub put-column-spec : {M : Type 1} → statement M
 put-column-spec =
     tie.close
-    (tie.spec
-    Inv-loop
-    μ-loop
-    loop-holds
-    mul-flat
-    array-read-flat
-    cast-flat
-    mul-flat-2
-    add-flat
-    slice-write-flat
-    add-p
-    loop-less
-    loop-again
-    same-length
-    returns)
+    (tie.spec Inv-loop μ-loop loop-holds (λ c. search needs) (λ c. search needs) cast-flat (λ c. search needs) (λ c. search needs) slice-write-flat
+    (λ c. search needs) (λ c. search needs) loop-again same-length returns)

@@ -20,31 +20,10 @@ loop-holds c =
     let a = c .before .before .before .before .args in
     (search needs, stored-start 0 (a .since .now) (λ i. a .first + i) (λ i. renewedIn (a .take .now) (a .marking .now) (a .short .now) (a .instant) (a .since .now) (a .first + i)))
 
-add-u : tie.Need-add-u Inv-loop μ-loop
-add-u c = search needs
-
-shared-slice-read-if1 : tie.Need-shared-slice-read-if1 Inv-loop μ-loop
-shared-slice-read-if1 c = search needs
-
-mul-covered : tie.Need-mul-covered Inv-loop μ-loop
-mul-covered c = search needs
-
-covered-requires : tie.Need-covered-requires Inv-loop μ-loop
-covered-requires c κs = search needs
-
-mul-since : tie.Need-mul-since Inv-loop μ-loop
-mul-since c = search needs
-
 slice-write-since : tie.Need-slice-write-since Inv-loop μ-loop
 slice-write-since c =
     let b = c .before .before .before .before .before in
     omega (arith, b .loop .inv .1 .long)
-
-add-k : tie.Need-add-k Inv-loop μ-loop
-add-k c = search needs
-
-loop-less : tie.Need-loop-less Inv-loop μ-loop
-loop-less c = search needs
 
 loop-again : tie.Need-loop-again Inv-loop μ-loop
 loop-again c =
@@ -74,18 +53,5 @@ returns c =
 pub restart-eight-spec : {M : Type 1} → statement M
 restart-eight-spec =
     tie.close
-    (tie.spec
-    Inv-loop
-    μ-loop
-    loop-holds
-    add-u
-    shared-slice-read-if1
-    mul-covered
-    covered-requires
-    mul-since
-    slice-write-since
-    add-k
-    loop-less
-    loop-again
-    same-length
-    returns)
+    (tie.spec Inv-loop μ-loop loop-holds (λ c. search needs) (λ c. search needs) (λ c. search needs) (λ c κs. search needs) (λ c. search needs)
+    slice-write-since (λ c. search needs) (λ c. search needs) loop-again same-length returns)

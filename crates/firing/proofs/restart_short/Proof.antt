@@ -38,12 +38,6 @@ restart-eight-requires c κs =
     let r = room l in
     (omega (arith, s .pre), omega (arith, s .pre), omega (arith, s .pre), omega (arith, b .loop .inv .filled .long, s .pre))
 
-add-first : tie.Need-add-first Inv-loop μ-loop
-add-first c = search needs
-
-loop-less : tie.Need-loop-less Inv-loop μ-loop
-loop-less c = search needs
-
 loop-again : tie.Need-loop-again Inv-loop μ-loop
 loop-again c =
     let y = c .before in
@@ -71,14 +65,5 @@ returns c =
 pub restart-short-spec : {M : Type 1} → statement M
 restart-short-spec =
     tie.close
-    (tie.spec
-    Inv-loop
-    μ-loop
-    loop-holds
-    any-short-requires
-    restart-eight-requires
-    add-first
-    loop-less
-    loop-again
-    same-length
+    (tie.spec Inv-loop μ-loop loop-holds any-short-requires restart-eight-requires (λ c. search needs) (λ c. search needs) loop-again same-length
     returns)

@@ -31,30 +31,12 @@ loop-holds c =
       columns-start,
     )
 
-mul-tr : tie.Need-mul-tr Inv-loop μ-loop
-mul-tr c = search needs
-
-element-copy-out-tr : tie.Need-element-copy-out-tr Inv-loop μ-loop
-element-copy-out-tr c = search needs
-
-slice-aggregate-put-row : tie.Need-slice-aggregate-put-row Inv-loop μ-loop
-slice-aggregate-put-row c = search needs
-
-mul-put-row : tie.Need-mul-put-row Inv-loop μ-loop
-mul-put-row c = search needs
-
 put-row-requires : tie.Need-put-row-requires Inv-loop μ-loop
 put-row-requires c κs =
     let l = c .before .before .before .before in
     let b = l .before in
     let s = b .before in
     (s .pre .0, omega (arith, b .loop .inv .1 .long, s .pre), taken-small (s .args .t1) (s .pre .2) (table-long s) (s .pre .1) _ (b .loop .t) (l .loop-test .taken))
-
-slice-aggregate-put-row-2 : tie.Need-slice-aggregate-put-row-2 Inv-loop μ-loop
-slice-aggregate-put-row-2 c = search needs
-
-mul-put-row-2 : tie.Need-mul-put-row-2 Inv-loop μ-loop
-mul-put-row-2 c = search needs
 
 put-row-requires-2 : tie.Need-put-row-requires-2 Inv-loop μ-loop
 put-row-requires-2 c κs =
@@ -63,21 +45,12 @@ put-row-requires-2 c κs =
     let s = b .before in
     (s .pre .0, omega (arith, b .loop .inv .2 .long, s .pre), given-small (s .args .t1) (s .pre .2) (table-long s) (s .pre .1) _ (b .loop .t) (l .loop-test .taken))
 
-slice-aggregate-put-column : tie.Need-slice-aggregate-put-column Inv-loop μ-loop
-slice-aggregate-put-column c = search needs
-
 put-column-requires : tie.Need-put-column-requires Inv-loop μ-loop
 put-column-requires c κs =
     let l = c .before .before .before .before .before .before .before .before .before .before in
     let b = l .before in
     let s = b .before in
     (s .pre .0, omega (arith, l .loop-test .taken, s .pre), b .loop .inv .3, taken-small (s .args .t1) (s .pre .2) (table-long s) (s .pre .1) _ (b .loop .t) (l .loop-test .taken))
-
-add-t : tie.Need-add-t Inv-loop μ-loop
-add-t c = search needs
-
-loop-less : tie.Need-loop-less Inv-loop μ-loop
-loop-less c = search needs
 
 loop-again : tie.Need-loop-again Inv-loop μ-loop
 loop-again c =
@@ -105,21 +78,6 @@ returns c =
 pub rows-of-spec : {M : Type 1} → statement M
 rows-of-spec =
     tie.close
-    (tie.spec
-    Inv-loop
-    μ-loop
-    loop-holds
-    mul-tr
-    element-copy-out-tr
-    slice-aggregate-put-row
-    mul-put-row
-    put-row-requires
-    slice-aggregate-put-row-2
-    mul-put-row-2
-    put-row-requires-2
-    slice-aggregate-put-column
-    put-column-requires
-    add-t
-    loop-less
-    loop-again
-    returns)
+    (tie.spec Inv-loop μ-loop loop-holds (λ c. search needs) (λ c. search needs) (λ c. search needs) (λ c. search needs) put-row-requires
+    (λ c. search needs) (λ c. search needs) put-row-requires-2 (λ c. search needs) put-column-requires (λ c. search needs) (λ c. search needs)
+    loop-again returns)

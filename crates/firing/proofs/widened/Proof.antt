@@ -18,24 +18,6 @@ abbrev μ-loop : tie.MeasureT-loop
 loop-holds : tie.Need-loop-holds Inv-loop μ-loop
 loop-holds c = (search needs, fill-start 0 (replicate 16 0) (λ k. getD (c .args .t1) k 0))
 
-array-read-wide : tie.Need-array-read-wide Inv-loop μ-loop
-array-read-wide c = search needs
-
-cast-wide : tie.Need-cast-wide Inv-loop μ-loop
-cast-wide c = search needs
-
-mul-wide : tie.Need-mul-wide Inv-loop μ-loop
-mul-wide c = search needs
-
-array-write-wide : tie.Need-array-write-wide Inv-loop μ-loop
-array-write-wide c = search needs
-
-add-p : tie.Need-add-p Inv-loop μ-loop
-add-p c = search needs
-
-loop-less : tie.Need-loop-less Inv-loop μ-loop
-loop-less c = search needs
-
 loop-again : tie.Need-loop-again Inv-loop μ-loop
 loop-again c = (search needs, fill-store (c .before .loop .inv .1) _ (omega arith) refl)
 
@@ -50,15 +32,5 @@ returns c =
 pub widened-spec : {M : Type 1} → statement M
 widened-spec =
     tie.close
-    (tie.spec
-    Inv-loop
-    μ-loop
-    loop-holds
-    array-read-wide
-    cast-wide
-    mul-wide
-    array-write-wide
-    add-p
-    loop-less
-    loop-again
-    returns)
+    (tie.spec Inv-loop μ-loop loop-holds (λ c. search needs) (λ c. search needs) (λ c. search needs) (λ c. search needs) (λ c. search needs)
+    (λ c. search needs) loop-again returns)

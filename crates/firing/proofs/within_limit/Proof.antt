@@ -19,15 +19,6 @@ abbrev μ-loop : tie.MeasureT-loop
 loop-holds : tie.Need-loop-holds Inv-loop μ-loop
 loop-holds c = asked-start (keepsLimit (c .args .take .now) (c .args .give .now) (c .args .row) (c .args .marking .now)) (c .args .places)
 
-shared-slice-read-left : tie.Need-shared-slice-read-left Inv-loop μ-loop
-shared-slice-read-left c = search needs
-
-add-left : tie.Need-add-left Inv-loop μ-loop
-add-left c = search needs
-
-shared-slice-read-left-2 : tie.Need-shared-slice-read-left-2 Inv-loop μ-loop
-shared-slice-read-left-2 c = search needs
-
 sub-left : tie.Need-sub-left Inv-loop μ-loop
 sub-left c =
     let b = c .before .before in
@@ -36,18 +27,6 @@ sub-left c =
 
 sub-if1 : tie.Need-sub-if1 Inv-loop μ-loop
 sub-if1 c = omega (arith, c .before .shared-slice-known .given (c .before .before .before .loop .p))
-
-add-if1 : tie.Need-add-if1 Inv-loop μ-loop
-add-if1 c = search needs
-
-shared-slice-read-if1 : tie.Need-shared-slice-read-if1 Inv-loop μ-loop
-shared-slice-read-if1 c = search needs
-
-add-p : tie.Need-add-p Inv-loop μ-loop
-add-p c = search needs
-
-loop-less : tie.Need-loop-less Inv-loop μ-loop
-loop-less c = search needs
 
 loop-again : tie.Need-loop-again Inv-loop μ-loop
 loop-again c =
@@ -69,18 +48,5 @@ returns c = asked-done (c .before .loop .inv) (c .loop-test .left)
 pub within-limit-spec : {M : Type 1} → statement M
 within-limit-spec =
     tie.close
-    (tie.spec
-    Inv-loop
-    μ-loop
-    loop-holds
-    shared-slice-read-left
-    add-left
-    shared-slice-read-left-2
-    sub-left
-    sub-if1
-    add-if1
-    shared-slice-read-if1
-    add-p
-    loop-less
-    loop-again
-    returns)
+    (tie.spec Inv-loop μ-loop loop-holds (λ c. search needs) (λ c. search needs) (λ c. search needs) sub-left sub-if1 (λ c. search needs)
+    (λ c. search needs) (λ c. search needs) (λ c. search needs) loop-again returns)

@@ -11,23 +11,8 @@ use Rattle.form.proofs.all_short.Tie as tie
 returns : tie.Need-returns
 returns c = let a = c .before .before .args in short-none (a .s .now) (a .at) (omega arith)
 
-sub-if2 : tie.Need-sub-if2
-sub-if2 c = search needs
-
 returns-2 : tie.Need-returns-2
 returns-2 c = let a = c .before .before .before .args in short-none (a .s .now) (a .at) (omega arith)
-
-slice-aggregate-none-below : tie.Need-slice-aggregate-none-below
-slice-aggregate-none-below c = search needs
-
-none-below-requires : tie.Need-none-below-requires
-none-below-requires c κs = search needs
-
-slice-aggregate-none-above : tie.Need-slice-aggregate-none-above
-slice-aggregate-none-above c = search needs
-
-none-above-requires : tie.Need-none-above-requires
-none-above-requires c κs = search needs
 
 returns-3 : tie.Need-returns-3
 unfolding itemsText digits width decimal
@@ -45,13 +30,5 @@ returns-4 c =
 pub all-short-spec : {M : Type 1} → statement M
 all-short-spec =
     tie.close
-    (tie.spec
-    returns
-    sub-if2
-    returns-2
-    slice-aggregate-none-below
-    none-below-requires
-    slice-aggregate-none-above
-    none-above-requires
-    returns-3
+    (tie.spec returns (λ c. search needs) returns-2 (λ c. search needs) (λ c κs. search needs) (λ c. search needs) (λ c κs. search needs) returns-3
     returns-4)

@@ -11,4 +11,6 @@ returns-2 : tie.Need-returns-2
 returns-2 c = rw (le-ltb _ _ (c .if1 .left)) refl
 
 pub check-listed-spec : {M : Type 1} → statement M
-check-listed-spec = tie.close (tie.spec returns returns-2)
+check-listed-spec =
+    tie.close
+    (tie.spec returns returns-2)

@@ -14,4 +14,6 @@ returns-3 : tie.Need-returns-3
 returns-3 c = rw (in-range _ _ _ (c .before .if1 .left) (c .if2 .left)) refl
 
 pub check-range-spec : {M : Type 1} → statement M
-check-range-spec = tie.close (tie.spec returns returns-2 returns-3)
+check-range-spec =
+    tie.close
+    (tie.spec returns returns-2 returns-3)

@@ -6,16 +6,10 @@ use Rattle.text.proofs.KeyLaws.{begins-split}
 use Rattle.form.proofs.field_line.Statement.{statement}
 use Rattle.form.proofs.field_line.Tie as tie
 
-begins-at-requires : tie.Need-begins-at-requires
-begins-at-requires c κs = search needs
-
 add-field-at : tie.Need-add-field-at
 add-field-at c =
     let a = c .before .before .before .before .args in
     omega (arith, begins-split (a .key .now) (a .s .now) (a .at) (sym (c .before .begins-at .ensures) ∙ c .if1 .taken) .1)
-
-field-at-requires : tie.Need-field-at-requires
-field-at-requires c κs = search needs
 
 returns : tie.Need-returns
 returns c = c .field-at .ensures ∙ rw (sym (c .before .before .begins-at .ensures) ∙ c .before .if1 .taken) refl
@@ -25,4 +19,5 @@ returns-2 c = rw (sym (c .before .begins-at .ensures) ∙ c .if1 .left) refl
 
 pub field-line-spec : {M : Type 1} → statement M
 field-line-spec =
-    tie.close (tie.spec begins-at-requires add-field-at field-at-requires returns returns-2)
+    tie.close
+    (tie.spec (λ c κs. search needs) add-field-at (λ c κs. search needs) returns returns-2)

@@ -15,21 +15,6 @@ abbrev μ-loop : tie.MeasureT-loop
 loop-holds : tie.Need-loop-holds Inv-loop μ-loop
 loop-holds c = let a = c .before .args in reading-start (a .count) (a .s .now) (a .at) (a .line)
 
-add-item-at : tie.Need-add-item-at Inv-loop μ-loop
-add-item-at c = search needs
-
-item-at-requires : tie.Need-item-at-requires Inv-loop μ-loop
-item-at-requires c κs = search needs
-
-enum-known-n : tie.Need-enum-known-n Inv-loop μ-loop
-enum-known-n c = search needs
-
-enum-told : tie.Need-enum-told Inv-loop μ-loop
-enum-told c = search needs
-
-no-numbers-requires : tie.Need-no-numbers-requires Inv-loop μ-loop
-no-numbers-requires c κs = search needs
-
 returns : tie.Need-returns Inv-loop μ-loop
 returns c =
     let f = c .before .before .before in
@@ -37,18 +22,6 @@ returns c =
     let a = b .before .before .args in
     c .no-numbers .ensures ∙
     reading-fails (a .count) (a .s .now) (a .at) (a .line) (b .loop .items) _ _ (b .loop .inv) (f .before .loop-test .taken) (sym (f .item-at .ensures) ∙ c .before .enum-told .given .1)
-
-mul-items : tie.Need-mul-items Inv-loop μ-loop
-mul-items c = search needs
-
-array-write-items : tie.Need-array-write-items Inv-loop μ-loop
-array-write-items c = search needs
-
-add-i : tie.Need-add-i Inv-loop μ-loop
-add-i c = search needs
-
-loop-less : tie.Need-loop-less Inv-loop μ-loop
-loop-less c = search needs
 
 loop-again : tie.Need-loop-again Inv-loop μ-loop
 loop-again c =
@@ -66,19 +39,5 @@ returns-2 c =
 pub items-at-spec : {M : Type 1} → statement M
 items-at-spec =
     tie.close
-    (tie.spec
-    Inv-loop
-    μ-loop
-    loop-holds
-    add-item-at
-    item-at-requires
-    enum-known-n
-    enum-told
-    no-numbers-requires
-    returns
-    mul-items
-    array-write-items
-    add-i
-    loop-less
-    loop-again
-    returns-2)
+    (tie.spec Inv-loop μ-loop loop-holds (λ c. search needs) (λ c κs. search needs) (λ c. search needs) (λ c. search needs) (λ c κs. search needs)
+    returns (λ c. search needs) (λ c. search needs) (λ c. search needs) (λ c. search needs) loop-again returns-2)

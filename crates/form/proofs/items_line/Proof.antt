@@ -23,16 +23,10 @@ short-behind : (c : tie.Then5) →
     shortAt (a .s .now) (a .at + length (a .key .now)) ≡ true
 short-behind c = sym (c .before .all-short .ensures) ∙ c .if5 .taken
 
-begins-at-requires : tie.Need-begins-at-requires
-begins-at-requires c κs = search needs
-
 add-from : tie.Need-add-from
 add-from c =
     let a = c .before .before .before .before .args in
     omega (arith, begins-split (a .key .now) (a .s .now) (a .at) (keyed-there c) .1)
-
-all-short-requires : tie.Need-all-short-requires
-all-short-requires c κs = search needs
 
 add-t22 : tie.Need-add-t22
 add-t22 c =
@@ -50,33 +44,6 @@ returns c =
     rw (c .short-items .ensures)
     (items-short (a .key .now) (a .s .now) (a .at) (a .count) (a .low) (a .high) (a .line) (keyed-there t) (h .before .before .before .before .if2 .taken)
     (h .before .before .before .if3 .taken) (h .before .before .if4 .taken) (short-behind h))
-
-items-at-requires : tie.Need-items-at-requires
-items-at-requires c κs = search needs
-
-enum-known-read : tie.Need-enum-known-read
-enum-known-read c = search needs
-
-no-numbers-requires : tie.Need-no-numbers-requires
-no-numbers-requires c κs = search needs
-
-enum-told : tie.Need-enum-told
-enum-told c = search needs
-
-check-items-requires : tie.Need-check-items-requires
-check-items-requires c κs = search needs
-
-enum-known-c : tie.Need-enum-known-c
-enum-known-c c = search needs
-
-no-numbers-requires-2 : tie.Need-no-numbers-requires-2
-no-numbers-requires-2 c κs = search needs
-
-enum-told-2 : tie.Need-enum-told-2
-enum-told-2 c = search needs
-
-no-numbers-requires-3 : tie.Need-no-numbers-requires-3
-no-numbers-requires-3 c κs = search needs
 
 returns-2 : tie.Need-returns-2
 returns-2 c =
@@ -120,23 +87,6 @@ returns-5 c =
 pub items-line-spec : {M : Type 1} → statement M
 items-line-spec =
     tie.close
-    (tie.spec
-    begins-at-requires
-    add-from
-    all-short-requires
-    add-t22
-    short-items-requires
-    returns
-    items-at-requires
-    enum-known-read
-    no-numbers-requires
-    enum-told
-    check-items-requires
-    enum-known-c
-    no-numbers-requires-2
-    enum-told-2
-    no-numbers-requires-3
-    returns-2
-    returns-3
-    returns-4
-    returns-5)
+    (tie.spec (λ c κs. search needs) add-from (λ c κs. search needs) add-t22 short-items-requires returns (λ c κs. search needs) (λ c. search needs)
+    (λ c κs. search needs) (λ c. search needs) (λ c κs. search needs) (λ c. search needs) (λ c κs. search needs) (λ c. search needs)
+    (λ c κs. search needs) returns-2 returns-3 returns-4 returns-5)

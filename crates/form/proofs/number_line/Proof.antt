@@ -6,27 +6,6 @@ use Rattle.form.proofs.NumberLines.{line-none, line-refused, line-passe
 use Rattle.form.proofs.number_line.Statement.{statement}
 use Rattle.form.proofs.number_line.Tie as tie
 
-field-line-requires : tie.Need-field-line-requires
-field-line-requires c κs = search needs
-
-enum-told : tie.Need-enum-told
-enum-told c = search needs
-
-enum-known-n : tie.Need-enum-known-n
-enum-known-n c = search needs
-
-cast-check-range : tie.Need-cast-check-range
-cast-check-range c = search needs
-
-check-range-requires : tie.Need-check-range-requires
-check-range-requires c κs = search needs
-
-enum-known-c : tie.Need-enum-known-c
-enum-known-c c = search needs
-
-enum-told-2 : tie.Need-enum-told-2
-enum-told-2 c = search needs
-
 returns : tie.Need-returns
 returns c =
     let b = c .before .before in
@@ -52,14 +31,5 @@ returns-3 c =
 pub number-line-spec : {M : Type 1} → statement M
 number-line-spec =
     tie.close
-    (tie.spec
-    field-line-requires
-    enum-told
-    enum-known-n
-    cast-check-range
-    check-range-requires
-    enum-known-c
-    enum-told-2
-    returns
-    returns-2
-    returns-3)
+    (tie.spec (λ c κs. search needs) (λ c. search needs) (λ c. search needs) (λ c. search needs) (λ c κs. search needs) (λ c. search needs)
+    (λ c. search needs) returns returns-2 returns-3)

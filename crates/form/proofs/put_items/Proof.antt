@@ -17,29 +17,11 @@ abbrev μ-loop : tie.MeasureT-loop
 loop-holds : tie.Need-loop-holds Inv-loop μ-loop
 loop-holds c = let a = c .before .args in writing-start (a .out .now) (a .at) (a .count) (a .t3)
 
-mul-put-field : tie.Need-mul-put-field Inv-loop μ-loop
-mul-put-field c = search needs
-
-array-read-put-field : tie.Need-array-read-put-field Inv-loop μ-loop
-array-read-put-field c = search needs
-
-cast-put-field : tie.Need-cast-put-field Inv-loop μ-loop
-cast-put-field c = search needs
-
-add-put-field : tie.Need-add-put-field Inv-loop μ-loop
-add-put-field c = search needs
-
 put-field-requires : tie.Need-put-field-requires Inv-loop μ-loop
 put-field-requires c κs =
     let b = c .before .before in
     let a = b .before .before .args in
     writing-room (a .out .now) (a .at) (a .count) (a .t3) (b .loop .out) _ _ (b .loop .inv) (b .before .before .pre .1) (c .before .loop-test .taken)
-
-add-i : tie.Need-add-i Inv-loop μ-loop
-add-i c = search needs
-
-loop-less : tie.Need-loop-less Inv-loop μ-loop
-loop-less c = search needs
 
 loop-again : tie.Need-loop-again Inv-loop μ-loop
 loop-again c =
@@ -64,17 +46,5 @@ same-length c =
 pub put-items-spec : {M : Type 1} → statement M
 put-items-spec =
     tie.close
-    (tie.spec
-    Inv-loop
-    μ-loop
-    loop-holds
-    mul-put-field
-    array-read-put-field
-    cast-put-field
-    add-put-field
-    put-field-requires
-    add-i
-    loop-less
-    loop-again
-    same-length
-    returns)
+    (tie.spec Inv-loop μ-loop loop-holds (λ c. search needs) (λ c. search needs) (λ c. search needs) (λ c. search needs) put-field-requires
+    (λ c. search needs) (λ c. search needs) loop-again same-length returns)

@@ -20,9 +20,6 @@ put-items-requires c κs =
           (k .put-bytes .last .0) (k .put-bytes .ensures),
     )
 
-same-length : tie.Need-same-length
-same-length c = search needs
-
 returns : tie.Need-returns
 returns c =
     let f = c .before .before in
@@ -33,4 +30,5 @@ returns c =
 
 pub put-items-line-spec : {M : Type 1} → statement M
 put-items-line-spec =
-    tie.close (tie.spec put-bytes-requires put-items-requires same-length returns)
+    tie.close
+    (tie.spec put-bytes-requires put-items-requires (λ c. search needs) returns)

@@ -17,9 +17,6 @@ put-field-requires c κs =
     let b = k .before .before .before .before in
     room-then (b .args .out .now) (b .args .at) (b .args .key .now) (field (b .args .n) true) (b .pre) (k .put-bytes .result) (k .put-bytes .last .0) (k .put-bytes .ensures)
 
-same-length : tie.Need-same-length
-same-length c = search needs
-
 returns : tie.Need-returns
 returns c =
     let f = c .before .before in
@@ -30,4 +27,5 @@ returns c =
 
 pub put-number-line-spec : {M : Type 1} → statement M
 put-number-line-spec =
-    tie.close (tie.spec put-bytes-requires put-field-requires same-length returns)
+    tie.close
+    (tie.spec put-bytes-requires put-field-requires (λ c. search needs) returns)

@@ -64,18 +64,5 @@ returns c =
 pub short-items-spec : {M : Type 1} → statement M
 short-items-spec =
     tie.close
-    (tie.spec
-    Inv-loop
-    μ-loop
-    loop-holds
-    mul-items
-    add-items
-    shared-slice-read-items
-    cast-items
-    sub-items
-    mul-items-2
-    array-write-items
-    add-i
-    loop-less
-    loop-again
-    returns)
+    (tie.spec Inv-loop μ-loop loop-holds mul-items add-items shared-slice-read-items cast-items sub-items mul-items-2 array-write-items add-i
+    loop-less loop-again returns)

@@ -6,12 +6,6 @@ use Rattle.form.proofs.NumberLines.{above-range, in-range}
 use Rattle.net.proofs.check_latest.Statement.{statement}
 use Rattle.net.proofs.check_latest.Tie as tie
 
-enum-told : tie.Need-enum-told
-enum-told c = search needs
-
-enum-known-latest : tie.Need-enum-known-latest
-enum-known-latest c = search needs
-
 returns : tie.Need-returns
 returns c =
     let l = c .before .before .latest .given in
@@ -22,9 +16,6 @@ returns-2 c =
     let l = c .before .before .before .latest .given in
     rw (l .1, in-range 0 1000 _ (omega arith) (c .before .if1 .left), lt-ltb _ _ (c .if2 .taken))
 
-returns-3 : tie.Need-returns-3
-returns-3 c = search needs
-
 returns-4 : tie.Need-returns-4
 returns-4 c =
     let l = c .before .before .before .latest .given in
@@ -32,4 +23,5 @@ returns-4 c =
 
 pub check-latest-spec : {M : Type 1} → statement M
 check-latest-spec =
-    tie.close (tie.spec enum-told enum-known-latest returns returns-2 returns-3 returns-4)
+    tie.close
+    (tie.spec (λ c. search needs) (λ c. search needs) returns returns-2 (λ c. search needs) returns-4)

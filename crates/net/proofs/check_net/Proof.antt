@@ -7,28 +7,10 @@ use Rattle.net.proofs.Check.{places-fail, transitions-fail, starts-fail
 use Rattle.net.proofs.check_net.Statement.{statement}
 use Rattle.net.proofs.check_net.Tie as tie
 
-check-range-requires : tie.Need-check-range-requires
-check-range-requires c κs = search needs
-
-enum-told : tie.Need-enum-told
-enum-told c = search needs
-
-enum-told-2 : tie.Need-enum-told-2
-enum-told-2 c = search needs
-
 returns : tie.Need-returns
 returns c =
     let p = c .before .before in
     c .enum-told2 .given .1 ∙ places-fail (p .before .args .net) (sym (p .check-range .ensures) ∙ c .enum-told2 .given .1)
-
-check-range-requires-2 : tie.Need-check-range-requires-2
-check-range-requires-2 c κs = search needs
-
-enum-told-3 : tie.Need-enum-told-3
-enum-told-3 c = search needs
-
-enum-told-4 : tie.Need-enum-told-4
-enum-told-4 c = search needs
 
 returns-2 : tie.Need-returns-2
 returns-2 c =
@@ -43,12 +25,6 @@ check-start-requires c κs =
     let t = c .before .before .before .before in
     let p = t .before .before in
     omega (arith, ranged-within 1 16 (p .before .args .net .places) 1 (sym (p .check-range .ensures) ∙ t .enum-told .given .1))
-
-enum-told-5 : tie.Need-enum-told-5
-enum-told-5 c = search needs
-
-enum-told-6 : tie.Need-enum-told-6
-enum-told-6 c = search needs
 
 returns-3 : tie.Need-returns-3
 returns-3 c =
@@ -94,19 +70,5 @@ returns-4 c =
 pub check-net-spec : {M : Type 1} → statement M
 check-net-spec =
     tie.close
-    (tie.spec
-    check-range-requires
-    enum-told
-    enum-told-2
-    returns
-    check-range-requires-2
-    enum-told-3
-    enum-told-4
-    returns-2
-    check-start-requires
-    enum-told-5
-    enum-told-6
-    returns-3
-    add-check-table
-    check-table-requires
-    returns-4)
+    (tie.spec (λ c κs. search needs) (λ c. search needs) (λ c. search needs) returns (λ c κs. search needs) (λ c. search needs) (λ c. search needs)
+    returns-2 check-start-requires (λ c. search needs) (λ c. search needs) returns-3 add-check-table check-table-requires returns-4)

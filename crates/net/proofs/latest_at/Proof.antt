@@ -8,12 +8,6 @@ use Rattle.net.proofs.Read.{word-read, ticks-missing, ticks-refused, ti
 use Rattle.net.proofs.latest_at.Statement.{statement}
 use Rattle.net.proofs.latest_at.Tie as tie
 
-slice-aggregate-begins-at : tie.Need-slice-aggregate-begins-at
-slice-aggregate-begins-at c = search needs
-
-begins-at-requires : tie.Need-begins-at-requires
-begins-at-requires c κs = search needs
-
 add-t15 : tie.Need-add-t15
 add-t15 c =
     let b = c .before in
@@ -25,24 +19,6 @@ returns c =
     let b = c .before in
     let a = b .before .before .before .args in
     word-read (a .earliest) (a .s .now) (a .at) (a .line) (sym (b .begins-at .ensures) ∙ c .if1 .taken)
-
-field-at-requires : tie.Need-field-at-requires
-field-at-requires c κs = search needs
-
-enum-told : tie.Need-enum-told
-enum-told c = search needs
-
-enum-known-n : tie.Need-enum-known-n
-enum-known-n c = search needs
-
-check-latest-requires : tie.Need-check-latest-requires
-check-latest-requires c κs = search needs
-
-enum-known-c : tie.Need-enum-known-c
-enum-known-c c = search needs
-
-enum-told-2 : tie.Need-enum-told-2
-enum-told-2 c = search needs
 
 returns-2 : tie.Need-returns-2
 returns-2 c =
@@ -74,17 +50,5 @@ returns-4 c =
 pub latest-at-spec : {M : Type 1} → statement M
 latest-at-spec =
     tie.close
-    (tie.spec
-    slice-aggregate-begins-at
-    begins-at-requires
-    add-t15
-    returns
-    field-at-requires
-    enum-told
-    enum-known-n
-    check-latest-requires
-    enum-known-c
-    enum-told-2
-    returns-2
-    returns-3
-    returns-4)
+    (tie.spec (λ c. search needs) (λ c κs. search needs) add-t15 returns (λ c κs. search needs) (λ c. search needs) (λ c. search needs)
+    (λ c κs. search needs) (λ c. search needs) (λ c. search needs) returns-2 returns-3 returns-4)

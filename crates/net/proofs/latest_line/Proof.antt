@@ -10,20 +10,11 @@ use Rattle.net.specs.Net.{latest}
 use Rattle.net.proofs.latest_line.Statement.{statement}
 use Rattle.net.proofs.latest_line.Tie as tie
 
-slice-aggregate-begins-at : tie.Need-slice-aggregate-begins-at
-slice-aggregate-begins-at c = search needs
-
-begins-at-requires : tie.Need-begins-at-requires
-begins-at-requires c κs = search needs
-
 add-latest-at : tie.Need-add-latest-at
 add-latest-at c =
     let b = c .before in
     let a = b .before .before .before .args in
     omega (arith, begins-split latestKey (a .s .now) (a .at) (sym (b .begins-at .ensures) ∙ c .if1 .taken) .1)
-
-latest-at-requires : tie.Need-latest-at-requires
-latest-at-requires c κs = search needs
 
 returns : tie.Need-returns
 returns c =
@@ -41,10 +32,4 @@ returns-2 c =
 pub latest-line-spec : {M : Type 1} → statement M
 latest-line-spec =
     tie.close
-    (tie.spec
-    slice-aggregate-begins-at
-    begins-at-requires
-    add-latest-at
-    latest-at-requires
-    returns
-    returns-2)
+    (tie.spec (λ c. search needs) (λ c κs. search needs) add-latest-at (λ c κs. search needs) returns returns-2)

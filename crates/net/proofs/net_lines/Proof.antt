@@ -5,33 +5,6 @@ use Rattle.net.proofs.Read.{starts-stopped, tables-stopped, body-read}
 use Rattle.net.proofs.net_lines.Statement.{statement}
 use Rattle.net.proofs.net_lines.Tie as tie
 
-start-lines-requires : tie.Need-start-lines-requires
-start-lines-requires c κs = search needs
-
-enum-known-start-read : tie.Need-enum-known-start-read
-enum-known-start-read c = search needs
-
-refused-net-requires : tie.Need-refused-net-requires
-refused-net-requires c κs = search needs
-
-enum-known-start-read-2 : tie.Need-enum-known-start-read-2
-enum-known-start-read-2 c = search needs
-
-add-table-lines : tie.Need-add-table-lines
-add-table-lines c = search needs
-
-table-lines-requires : tie.Need-table-lines-requires
-table-lines-requires c κs = search needs
-
-enum-known-table-read : tie.Need-enum-known-table-read
-enum-known-table-read c = search needs
-
-refused-net-requires-2 : tie.Need-refused-net-requires-2
-refused-net-requires-2 c κs = search needs
-
-enum-known-table-read-2 : tie.Need-enum-known-table-read-2
-enum-known-table-read-2 c = search needs
-
 returns : tie.Need-returns
 returns c =
     let r = c .before .before in
@@ -64,16 +37,5 @@ returns-3 c =
 pub net-lines-spec : {M : Type 1} → statement M
 net-lines-spec =
     tie.close
-    (tie.spec
-    start-lines-requires
-    enum-known-start-read
-    refused-net-requires
-    enum-known-start-read-2
-    add-table-lines
-    table-lines-requires
-    enum-known-table-read
-    refused-net-requires-2
-    enum-known-table-read-2
-    returns
-    returns-2
-    returns-3)
+    (tie.spec (λ c κs. search needs) (λ c. search needs) (λ c κs. search needs) (λ c. search needs) (λ c. search needs) (λ c κs. search needs)
+    (λ c. search needs) (λ c κs. search needs) (λ c. search needs) returns returns-2 returns-3)

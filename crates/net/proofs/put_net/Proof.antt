@@ -6,17 +6,11 @@ use Rattle.net.proofs.Write.{placesText, transitionsText}
 use Rattle.net.proofs.put_net.Statement.{statement}
 use Rattle.net.proofs.put_net.Tie as tie
 
-slice-aggregate-put-number-line : tie.Need-slice-aggregate-put-number-line
-slice-aggregate-put-number-line c = search needs
-
 put-number-line-requires : tie.Need-put-number-line-requires
 put-number-line-requires c κs =
     let b = c .before .before .before in
     let n = b .args .net in
     first-room (b .args .out .now) (b .args .at) (placesText n) (transitionsText n) (starts (n .places) .text (n .start)) (table (n .places) (n .transitions) .text (n .table)) (b .pre .2)
-
-slice-aggregate-put-number-line-2 : tie.Need-slice-aggregate-put-number-line-2
-slice-aggregate-put-number-line-2 c = search needs
 
 put-number-line-requires-2 : tie.Need-put-number-line-requires-2
 put-number-line-requires-2 c κs =
@@ -53,9 +47,6 @@ put-table-requires c κs =
           (k .put-start .result) (k .put-start .last .0) (k .put-start .ensures),
     )
 
-same-length : tie.Need-same-length
-same-length c = search needs
-
 returns : tie.Need-returns
 returns c =
     let g = c .before .before in
@@ -73,12 +64,5 @@ returns c =
 pub put-net-spec : {M : Type 1} → statement M
 put-net-spec =
     tie.close
-    (tie.spec
-    slice-aggregate-put-number-line
-    put-number-line-requires
-    slice-aggregate-put-number-line-2
-    put-number-line-requires-2
-    put-start-requires
-    put-table-requires
-    same-length
-    returns)
+    (tie.spec (λ c. search needs) put-number-line-requires (λ c. search needs) put-number-line-requires-2 put-start-requires put-table-requires
+    (λ c. search needs) returns)

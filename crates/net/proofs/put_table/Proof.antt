@@ -19,24 +19,12 @@ loop-holds c =
     let a = c .before .args in
     writing-start (transition (a .places)) (a .transitions) noTransition (a .t3) (a .out .now) (a .at)
 
-mul-put-transition : tie.Need-mul-put-transition Inv-loop μ-loop
-mul-put-transition c = search needs
-
-array-copy-out-put-transition : tie.Need-array-copy-out-put-transition Inv-loop μ-loop
-array-copy-out-put-transition c = search needs
-
 put-transition-requires : tie.Need-put-transition-requires Inv-loop μ-loop
 put-transition-requires c κs =
     let b = c .before .before .before in
     let s = b .before .before in
     let long : b .loop .i < length (s .args .t3) = search needs in
     (s .pre .0, transition-room (s .args .places) (s .pre .2) (b .loop .inv) (c .before .before .loop-test .taken) _ long)
-
-add-i : tie.Need-add-i Inv-loop μ-loop
-add-i c = search needs
-
-loop-less : tie.Need-loop-less Inv-loop μ-loop
-loop-less c = search needs
 
 loop-again : tie.Need-loop-again Inv-loop μ-loop
 loop-again c =
@@ -57,15 +45,5 @@ returns c = writing-done (c .before .loop .inv) (c .loop-test .left)
 pub put-table-spec : {M : Type 1} → statement M
 put-table-spec =
     tie.close
-    (tie.spec
-    Inv-loop
-    μ-loop
-    loop-holds
-    mul-put-transition
-    array-copy-out-put-transition
-    put-transition-requires
-    add-i
-    loop-less
-    loop-again
-    same-length
-    returns)
+    (tie.spec Inv-loop μ-loop loop-holds (λ c. search needs) (λ c. search needs) put-transition-requires (λ c. search needs) (λ c. search needs)
+    loop-again same-length returns)

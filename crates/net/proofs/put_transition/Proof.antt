@@ -5,12 +5,6 @@ use Rattle.net.proofs.Write.{earliestText, latestLineText, takeText, gi
 use Rattle.net.proofs.put_transition.Statement.{statement}
 use Rattle.net.proofs.put_transition.Tie as tie
 
-slice-aggregate-put-number-line : tie.Need-slice-aggregate-put-number-line
-slice-aggregate-put-number-line c = search needs
-
-cast-put-number-line : tie.Need-cast-put-number-line
-cast-put-number-line c = search needs
-
 put-number-line-requires : tie.Need-put-number-line-requires
 put-number-line-requires c κs =
     let b = c .before .before .before .before in
@@ -27,9 +21,6 @@ put-latest-line-requires c κs =
     second-room (b .args .out .now) (b .args .at) (earliestText t) (latestLineText t) (takeText p t) (giveText p t) (b .pre .1)
     (e .put-number-line .result) (e .put-number-line .last .0) (e .put-number-line .ensures)
 
-slice-aggregate-put-items-line : tie.Need-slice-aggregate-put-items-line
-slice-aggregate-put-items-line c = search needs
-
 put-items-line-requires : tie.Need-put-items-line-requires
 put-items-line-requires c κs =
     let l = c .before .before .before .before .before in
@@ -42,9 +33,6 @@ put-items-line-requires c κs =
           (e .put-number-line .result) (e .put-number-line .last .0) (e .put-number-line .ensures)
           (l .put-latest-line .result) (l .put-latest-line .last .0) (l .put-latest-line .ensures),
     )
-
-slice-aggregate-put-items-line-2 : tie.Need-slice-aggregate-put-items-line-2
-slice-aggregate-put-items-line-2 c = search needs
 
 put-items-line-requires-2 : tie.Need-put-items-line-requires-2
 put-items-line-requires-2 c κs =
@@ -60,9 +48,6 @@ put-items-line-requires-2 c κs =
           (l .put-latest-line .result) (l .put-latest-line .last .0) (l .put-latest-line .ensures)
           (k .put-items-line .result) (k .put-items-line .last .0) (k .put-items-line .ensures),
     )
-
-same-length : tie.Need-same-length
-same-length c = search needs
 
 returns : tie.Need-returns
 returns c =
@@ -82,14 +67,5 @@ returns c =
 pub put-transition-spec : {M : Type 1} → statement M
 put-transition-spec =
     tie.close
-    (tie.spec
-    slice-aggregate-put-number-line
-    cast-put-number-line
-    put-number-line-requires
-    put-latest-line-requires
-    slice-aggregate-put-items-line
-    put-items-line-requires
-    slice-aggregate-put-items-line-2
-    put-items-line-requires-2
-    same-length
-    returns)
+    (tie.spec (λ c. search needs) (λ c. search needs) put-number-line-requires put-latest-line-requires (λ c. search needs) put-items-line-requires
+    (λ c. search needs) put-items-line-requires-2 (λ c. search needs) returns)

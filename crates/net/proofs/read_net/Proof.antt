@@ -5,42 +5,6 @@ use Rattle.net.proofs.Read.{places-stopped, transitions-stopped, net-re
 use Rattle.net.proofs.read_net.Statement.{statement}
 use Rattle.net.proofs.read_net.Tie as tie
 
-slice-aggregate-number-line : tie.Need-slice-aggregate-number-line
-slice-aggregate-number-line c = search needs
-
-number-line-requires : tie.Need-number-line-requires
-number-line-requires c κs = search needs
-
-enum-known-p : tie.Need-enum-known-p
-enum-known-p c = search needs
-
-refused-net-requires : tie.Need-refused-net-requires
-refused-net-requires c κs = search needs
-
-enum-known-p-2 : tie.Need-enum-known-p-2
-enum-known-p-2 c = search needs
-
-slice-aggregate-number-line-2 : tie.Need-slice-aggregate-number-line-2
-slice-aggregate-number-line-2 c = search needs
-
-number-line-requires-2 : tie.Need-number-line-requires-2
-number-line-requires-2 c κs = search needs
-
-enum-known-t : tie.Need-enum-known-t
-enum-known-t c = search needs
-
-refused-net-requires-2 : tie.Need-refused-net-requires-2
-refused-net-requires-2 c κs = search needs
-
-enum-known-t-2 : tie.Need-enum-known-t-2
-enum-known-t-2 c = search needs
-
-cast-net-lines : tie.Need-cast-net-lines
-cast-net-lines c = search needs
-
-cast-net-lines-2 : tie.Need-cast-net-lines-2
-cast-net-lines-2 c = search needs
-
 net-lines-requires : tie.Need-net-lines-requires
 net-lines-requires c κs =
     let e = c .before in
@@ -76,20 +40,6 @@ returns-3 c =
 pub read-net-spec : {M : Type 1} → statement M
 read-net-spec =
     tie.close
-    (tie.spec
-    slice-aggregate-number-line
-    number-line-requires
-    enum-known-p
-    refused-net-requires
-    enum-known-p-2
-    slice-aggregate-number-line-2
-    number-line-requires-2
-    enum-known-t
-    refused-net-requires-2
-    enum-known-t-2
-    cast-net-lines
-    cast-net-lines-2
-    net-lines-requires
-    returns
-    returns-2
-    returns-3)
+    (tie.spec (λ c. search needs) (λ c κs. search needs) (λ c. search needs) (λ c κs. search needs) (λ c. search needs) (λ c. search needs)
+    (λ c κs. search needs) (λ c. search needs) (λ c κs. search needs) (λ c. search needs) (λ c. search needs) (λ c. search needs) net-lines-requires
+    returns returns-2 returns-3)

@@ -9,24 +9,6 @@ use Rattle.net.proofs.Read.{none-behind, starts-behind, behind-within}
 use Rattle.net.proofs.remainder.Statement.{statement}
 use Rattle.net.proofs.remainder.Tie as tie
 
-read-net-requires : tie.Need-read-net-requires
-read-net-requires c κs = search needs
-
-enum-told : tie.Need-enum-told
-enum-told c = search needs
-
-sub-result : tie.Need-sub-result
-sub-result c = search needs
-
-part-result-start : tie.Need-part-result-start
-part-result-start c = search needs
-
-part-result-end : tie.Need-part-result-end
-part-result-end c = search needs
-
-enum-known-read : tie.Need-enum-known-read
-enum-known-read c = search needs
-
 sub-result-2 : tie.Need-sub-result-2
 sub-result-2 c =
     let n = c .before .before .before in
@@ -34,9 +16,6 @@ sub-result-2 c =
 
 part-result-start-2 : tie.Need-part-result-start-2
 part-result-start-2 c = sub-result-2 c
-
-part-result-end-2 : tie.Need-part-result-end-2
-part-result-end-2 c = search needs
 
 returns : tie.Need-returns
 returns c =
@@ -56,15 +35,5 @@ returns-2 c =
 pub remainder-spec : {M : Type 1} → statement M
 remainder-spec =
     tie.close
-    (tie.spec
-    read-net-requires
-    enum-told
-    sub-result
-    part-result-start
-    part-result-end
-    enum-known-read
-    sub-result-2
-    part-result-start-2
-    part-result-end-2
-    returns
-    returns-2)
+    (tie.spec (λ c κs. search needs) (λ c. search needs) (λ c. search needs) (λ c. search needs) (λ c. search needs) (λ c. search needs) sub-result-2
+    part-result-start-2 (λ c. search needs) returns returns-2)

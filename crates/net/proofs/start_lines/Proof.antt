@@ -20,21 +20,6 @@ loop-holds c =
     let a = c .before .args in
     (start-begins (a .places) (a .s .now) (a .at) (a .line) (c .before .pre .0), refl)
 
-slice-aggregate-number-line : tie.Need-slice-aggregate-number-line Inv-loop μ-loop
-slice-aggregate-number-line c = search needs
-
-add-number-line : tie.Need-add-number-line Inv-loop μ-loop
-add-number-line c = search needs
-
-number-line-requires : tie.Need-number-line-requires Inv-loop μ-loop
-number-line-requires c κs = search needs
-
-enum-known-n : tie.Need-enum-known-n Inv-loop μ-loop
-enum-known-n c = search needs
-
-no-numbers-requires : tie.Need-no-numbers-requires Inv-loop μ-loop
-no-numbers-requires c κs = search needs
-
 returns : tie.Need-returns Inv-loop μ-loop
 returns c =
     let e = c .before .before in
@@ -42,21 +27,6 @@ returns c =
     let b = n .before .before .before in
     c .no-numbers .ensures ∙
     start-stopped (b .loop .inv .0) (n .before .before .loop-test .taken) (rw (b .loop .inv .1) at (sym (n .number-line .ensures) ∙ e .n .given .1))
-
-enum-known-n-2 : tie.Need-enum-known-n-2 Inv-loop μ-loop
-enum-known-n-2 c = search needs
-
-mul-items : tie.Need-mul-items Inv-loop μ-loop
-mul-items c = search needs
-
-array-write-items : tie.Need-array-write-items Inv-loop μ-loop
-array-write-items c = search needs
-
-add-i : tie.Need-add-i Inv-loop μ-loop
-add-i c = search needs
-
-loop-less : tie.Need-loop-less Inv-loop μ-loop
-loop-less c = search needs
 
 loop-again : tie.Need-loop-again Inv-loop μ-loop
 loop-again c =
@@ -71,20 +41,5 @@ returns-2 c = ap numbers (sym (reading-done (c .before .loop .inv .0) (c .loop-t
 pub start-lines-spec : {M : Type 1} → statement M
 start-lines-spec =
     tie.close
-    (tie.spec
-    Inv-loop
-    μ-loop
-    loop-holds
-    slice-aggregate-number-line
-    add-number-line
-    number-line-requires
-    enum-known-n
-    no-numbers-requires
-    returns
-    enum-known-n-2
-    mul-items
-    array-write-items
-    add-i
-    loop-less
-    loop-again
-    returns-2)
+    (tie.spec Inv-loop μ-loop loop-holds (λ c. search needs) (λ c. search needs) (λ c κs. search needs) (λ c. search needs) (λ c κs. search needs)
+    returns (λ c. search needs) (λ c. search needs) (λ c. search needs) (λ c. search needs) (λ c. search needs) loop-again returns-2)

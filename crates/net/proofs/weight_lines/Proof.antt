@@ -5,39 +5,6 @@ use Rattle.net.proofs.Read.{take-stopped, give-stopped, weights-read}
 use Rattle.net.proofs.weight_lines.Statement.{statement}
 use Rattle.net.proofs.weight_lines.Tie as tie
 
-slice-aggregate-items-line : tie.Need-slice-aggregate-items-line
-slice-aggregate-items-line c = search needs
-
-items-line-requires : tie.Need-items-line-requires
-items-line-requires c κs = search needs
-
-enum-known-take-read : tie.Need-enum-known-take-read
-enum-known-take-read c = search needs
-
-refused-transition-requires : tie.Need-refused-transition-requires
-refused-transition-requires c κs = search needs
-
-enum-known-take-read-2 : tie.Need-enum-known-take-read-2
-enum-known-take-read-2 c = search needs
-
-slice-aggregate-items-line-2 : tie.Need-slice-aggregate-items-line-2
-slice-aggregate-items-line-2 c = search needs
-
-add-items-line : tie.Need-add-items-line
-add-items-line c = search needs
-
-items-line-requires-2 : tie.Need-items-line-requires-2
-items-line-requires-2 c κs = search needs
-
-enum-known-give-read : tie.Need-enum-known-give-read
-enum-known-give-read c = search needs
-
-refused-transition-requires-2 : tie.Need-refused-transition-requires-2
-refused-transition-requires-2 c κs = search needs
-
-enum-known-give-read-2 : tie.Need-enum-known-give-read-2
-enum-known-give-read-2 c = search needs
-
 returns : tie.Need-returns
 returns c =
     let r = c .before .before in
@@ -70,18 +37,5 @@ returns-3 c =
 pub weight-lines-spec : {M : Type 1} → statement M
 weight-lines-spec =
     tie.close
-    (tie.spec
-    slice-aggregate-items-line
-    items-line-requires
-    enum-known-take-read
-    refused-transition-requires
-    enum-known-take-read-2
-    slice-aggregate-items-line-2
-    add-items-line
-    items-line-requires-2
-    enum-known-give-read
-    refused-transition-requires-2
-    enum-known-give-read-2
-    returns
-    returns-2
-    returns-3)
+    (tie.spec (λ c. search needs) (λ c κs. search needs) (λ c. search needs) (λ c κs. search needs) (λ c. search needs) (λ c. search needs)
+    (λ c. search needs) (λ c κs. search needs) (λ c. search needs) (λ c κs. search needs) (λ c. search needs) returns returns-2 returns-3)

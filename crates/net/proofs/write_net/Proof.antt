@@ -7,18 +7,6 @@ use Rattle.net.proofs.Write.{card-answered, card-refused, card-fits}
 use Rattle.net.proofs.write_net.Statement.{statement}
 use Rattle.net.proofs.write_net.Tie as tie
 
-check-net-requires : tie.Need-check-net-requires
-check-net-requires c κs = search needs
-
-enum-known-c : tie.Need-enum-known-c
-enum-known-c c = search needs
-
-enum-told : tie.Need-enum-told
-enum-told c = search needs
-
-slice-aggregate-put-net : tie.Need-slice-aggregate-put-net
-slice-aggregate-put-net c = search needs
-
 put-net-requires : tie.Need-put-net-requires
 put-net-requires c κs =
     let t = c .before in
@@ -31,17 +19,11 @@ array-share-prefix-card c = front-within (c .before .put-net .ensures)
 slice-aggregate-respond : tie.Need-slice-aggregate-respond
 slice-aggregate-respond c = front-length (c .before .before .put-net .ensures)
 
-respond-requires : tie.Need-respond-requires
-respond-requires c κs = search needs
-
 returns : tie.Need-returns
 returns c =
     let k = c .before .before .before in
     let a = k .before .before .args in
     card-refused (netCard .text (a .net)) (a .out .now) (sym (k .check-net .ensures) ∙ c .before .c .given .1)
-
-same-length : tie.Need-same-length
-same-length c = search needs
 
 returns-2 : tie.Need-returns-2
 returns-2 c =
@@ -54,15 +36,5 @@ returns-2 c =
 pub write-net-spec : {M : Type 1} → statement M
 write-net-spec =
     tie.close
-    (tie.spec
-    check-net-requires
-    enum-known-c
-    enum-told
-    slice-aggregate-put-net
-    put-net-requires
-    array-share-prefix-card
-    slice-aggregate-respond
-    respond-requires
-    returns
-    same-length
-    returns-2)
+    (tie.spec (λ c κs. search needs) (λ c. search needs) (λ c. search needs) (λ c. search needs) put-net-requires array-share-prefix-card
+    slice-aggregate-respond (λ c κs. search needs) returns (λ c. search needs) returns-2)

@@ -20,14 +20,6 @@ returns c =
     let e = lt-ltb (length (a .out .now)) (length (a .text .now)) (c .if1 .taken) in
     record { reply = rw e; output = rw e }
 
--- src/lib.rt:73:9
-copy-requires : tie.Need-copy-requires
-copy-requires c κs = search needs
-
--- src/lib.rt:67:1
-same-length : tie.Need-same-length
-same-length c = search needs
-
 -- src/lib.rt:67:1
 returns-2 : tie.Need-returns-2
 returns-2 c =
@@ -37,4 +29,6 @@ returns-2 c =
     record { reply = rw e (ap Written (m .0)); output = rw e (m .1 ∙ ap (λ (l : List ℕ). l ++ drop (length (a .text .now)) (a .out .now)) (take-length (a .text .now))) }
 
 pub respond-spec : {M : Type 1} → statement M
-respond-spec = tie.close (tie.spec returns copy-requires same-length returns-2)
+respond-spec =
+    tie.close
+    (tie.spec returns (λ c κs. search needs) (λ c. search needs) returns-2)

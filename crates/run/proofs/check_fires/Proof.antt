@@ -19,37 +19,10 @@ loop-holds c =
     let a = c .args in
     fires-checks (a .transitions) (a .count) (a .t1) (a .line)
 
-mul-check-listed : tie.Need-mul-check-listed Inv-loop μ-loop
-mul-check-listed c = search needs
-
-array-read-check-listed : tie.Need-array-read-check-listed Inv-loop μ-loop
-array-read-check-listed c = search needs
-
-cast-check-listed : tie.Need-cast-check-listed Inv-loop μ-loop
-cast-check-listed c = search needs
-
-add-check-listed : tie.Need-add-check-listed Inv-loop μ-loop
-add-check-listed c = search needs
-
-check-listed-requires : tie.Need-check-listed-requires Inv-loop μ-loop
-check-listed-requires c κs = search needs
-
-enum-told : tie.Need-enum-told Inv-loop μ-loop
-enum-told c = search needs
-
-enum-told-2 : tie.Need-enum-told-2 Inv-loop μ-loop
-enum-told-2 c = search needs
-
 returns : tie.Need-returns Inv-loop μ-loop
 returns c =
     let f = c .before .before in
     c .enum-told2 .given .1 ∙ sym (checking-refused (f .before .before .loop .inv) (f .before .loop-test .taken) (sym (f .check-listed .ensures) ∙ c .enum-told2 .given .1))
-
-add-i : tie.Need-add-i Inv-loop μ-loop
-add-i c = search needs
-
-loop-less : tie.Need-loop-less Inv-loop μ-loop
-loop-less c = search needs
 
 loop-again : tie.Need-loop-again Inv-loop μ-loop
 loop-again c =
@@ -64,19 +37,5 @@ returns-2 c = sym (checking-done (c .before .loop .inv) (c .loop-test .left))
 pub check-fires-spec : {M : Type 1} → statement M
 check-fires-spec =
     tie.close
-    (tie.spec
-    Inv-loop
-    μ-loop
-    loop-holds
-    mul-check-listed
-    array-read-check-listed
-    cast-check-listed
-    add-check-listed
-    check-listed-requires
-    enum-told
-    enum-told-2
-    returns
-    add-i
-    loop-less
-    loop-again
-    returns-2)
+    (tie.spec Inv-loop μ-loop loop-holds (λ c. search needs) (λ c. search needs) (λ c. search needs) (λ c. search needs) (λ c κs. search needs)
+    (λ c. search needs) (λ c. search needs) returns (λ c. search needs) (λ c. search needs) loop-again returns-2)

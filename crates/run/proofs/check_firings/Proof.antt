@@ -19,37 +19,10 @@ loop-holds c =
     let a = c .args in
     firings-checks (a .transitions) (a .count) (a .t1) (a .line)
 
-mul-check-firing : tie.Need-mul-check-firing Inv-loop μ-loop
-mul-check-firing c = search needs
-
-array-copy-out-check-firing : tie.Need-array-copy-out-check-firing Inv-loop μ-loop
-array-copy-out-check-firing c = search needs
-
-mul-check-firing-2 : tie.Need-mul-check-firing-2 Inv-loop μ-loop
-mul-check-firing-2 c = search needs
-
-add-check-firing : tie.Need-add-check-firing Inv-loop μ-loop
-add-check-firing c = search needs
-
-check-firing-requires : tie.Need-check-firing-requires Inv-loop μ-loop
-check-firing-requires c κs = search needs
-
-enum-told : tie.Need-enum-told Inv-loop μ-loop
-enum-told c = search needs
-
-enum-told-2 : tie.Need-enum-told-2 Inv-loop μ-loop
-enum-told-2 c = search needs
-
 returns : tie.Need-returns Inv-loop μ-loop
 returns c =
     let f = c .before .before in
     c .enum-told2 .given .1 ∙ sym (checking-refused (f .before .before .before .loop .inv) (f .before .before .loop-test .taken) (sym (f .check-firing .ensures) ∙ c .enum-told2 .given .1))
-
-add-i : tie.Need-add-i Inv-loop μ-loop
-add-i c = search needs
-
-loop-less : tie.Need-loop-less Inv-loop μ-loop
-loop-less c = search needs
 
 loop-again : tie.Need-loop-again Inv-loop μ-loop
 loop-again c =
@@ -64,19 +37,5 @@ returns-2 c = sym (checking-done (c .before .loop .inv) (c .loop-test .left))
 pub check-firings-spec : {M : Type 1} → statement M
 check-firings-spec =
     tie.close
-    (tie.spec
-    Inv-loop
-    μ-loop
-    loop-holds
-    mul-check-firing
-    array-copy-out-check-firing
-    mul-check-firing-2
-    add-check-firing
-    check-firing-requires
-    enum-told
-    enum-told-2
-    returns
-    add-i
-    loop-less
-    loop-again
-    returns-2)
+    (tie.spec Inv-loop μ-loop loop-holds (λ c. search needs) (λ c. search needs) (λ c. search needs) (λ c. search needs) (λ c κs. search needs)
+    (λ c. search needs) (λ c. search needs) returns (λ c. search needs) (λ c. search needs) loop-again returns-2)

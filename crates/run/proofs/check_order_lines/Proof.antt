@@ -6,15 +6,6 @@ use Rattle.run.proofs.Check.{count-within, order-count-fails, fires-dec
 use Rattle.run.proofs.check_order_lines.Statement.{statement}
 use Rattle.run.proofs.check_order_lines.Tie as tie
 
-check-range-requires : tie.Need-check-range-requires
-check-range-requires c κs = search needs
-
-enum-told : tie.Need-enum-told
-enum-told c = search needs
-
-enum-told-2 : tie.Need-enum-told-2
-enum-told-2 c = search needs
-
 returns : tie.Need-returns
 returns c =
     let n = c .before .before in
@@ -36,4 +27,4 @@ returns-2 c =
 pub check-order-lines-spec : {M : Type 1} → statement M
 check-order-lines-spec =
     tie.close
-    (tie.spec check-range-requires enum-told enum-told-2 returns check-fires-requires returns-2)
+    (tie.spec (λ c κs. search needs) (λ c. search needs) (λ c. search needs) returns check-fires-requires returns-2)

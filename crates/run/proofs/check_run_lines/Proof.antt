@@ -6,32 +6,11 @@ use Rattle.run.proofs.Check.{count-within, denominator-fails, count-fai
 use Rattle.run.proofs.check_run_lines.Statement.{statement}
 use Rattle.run.proofs.check_run_lines.Tie as tie
 
-cast-check-range : tie.Need-cast-check-range
-cast-check-range c = search needs
-
-check-range-requires : tie.Need-check-range-requires
-check-range-requires c κs = search needs
-
-enum-told : tie.Need-enum-told
-enum-told c = search needs
-
-enum-told-2 : tie.Need-enum-told-2
-enum-told-2 c = search needs
-
 returns : tie.Need-returns
 returns c =
     let d = c .before .before in
     let a = d .before .before .args in
     c .enum-told2 .given .1 ∙ denominator-fails (a .transitions) (a .run) (sym (d .check-range .ensures) ∙ c .enum-told2 .given .1)
-
-check-range-requires-2 : tie.Need-check-range-requires-2
-check-range-requires-2 c κs = search needs
-
-enum-told-3 : tie.Need-enum-told-3
-enum-told-3 c = search needs
-
-enum-told-4 : tie.Need-enum-told-4
-enum-told-4 c = search needs
 
 returns-2 : tie.Need-returns-2
 returns-2 c =
@@ -46,12 +25,6 @@ check-firings-requires c κs =
     let n = c .before .before .before in
     (count-within _ 3 (sym (n .check-range2 .ensures) ∙ c .before .enum-told3 .given .1), omega arith)
 
-enum-told-5 : tie.Need-enum-told-5
-enum-told-5 c = search needs
-
-enum-told-6 : tie.Need-enum-told-6
-enum-told-6 c = search needs
-
 returns-3 : tie.Need-returns-3
 returns-3 c =
     let f = c .before .before in
@@ -62,9 +35,6 @@ returns-3 c =
     c .enum-told6 .given .1 ∙
     firings-fail (a .transitions) (a .run) (sym (d .check-range .ensures) ∙ n .before .enum-told .given .1) (sym (n .check-range2 .ensures) ∙ t .enum-told3 .given .1)
     (sym (f .check-firings .ensures) ∙ c .enum-told6 .given .1)
-
-cast-check-range-2 : tie.Need-cast-check-range-2
-cast-check-range-2 c = search needs
 
 mul-check-range : tie.Need-mul-check-range
 mul-check-range c =
@@ -79,9 +49,6 @@ add-check-range c =
     let n = t .before .before in
     let a = n .before .before .before .before .before .args in
     omega (arith, count-within (a .run .count) 3 (sym (n .check-range2 .ensures) ∙ t .enum-told3 .given .1))
-
-check-range-requires-3 : tie.Need-check-range-requires-3
-check-range-requires-3 c κs = search needs
 
 returns-4 : tie.Need-returns-4
 returns-4 c =
@@ -98,22 +65,6 @@ returns-4 c =
 pub check-run-lines-spec : {M : Type 1} → statement M
 check-run-lines-spec =
     tie.close
-    (tie.spec
-    cast-check-range
-    check-range-requires
-    enum-told
-    enum-told-2
-    returns
-    check-range-requires-2
-    enum-told-3
-    enum-told-4
-    returns-2
-    check-firings-requires
-    enum-told-5
-    enum-told-6
-    returns-3
-    cast-check-range-2
-    mul-check-range
-    add-check-range
-    check-range-requires-3
-    returns-4)
+    (tie.spec (λ c. search needs) (λ c κs. search needs) (λ c. search needs) (λ c. search needs) returns (λ c κs. search needs) (λ c. search needs)
+    (λ c. search needs) returns-2 check-firings-requires (λ c. search needs) (λ c. search needs) returns-3 (λ c. search needs) mul-check-range
+    add-check-range (λ c κs. search needs) returns-4)

@@ -19,21 +19,6 @@ loop-holds c =
     let b = c .before in
     fires-start (b .args .transitions) (b .args .count) (b .args .s .now) (b .args .at) (b .args .line) (b .pre .0)
 
-slice-aggregate-listed-line : tie.Need-slice-aggregate-listed-line Inv-loop μ-loop
-slice-aggregate-listed-line c = search needs
-
-add-listed-line : tie.Need-add-listed-line Inv-loop μ-loop
-add-listed-line c = search needs
-
-listed-line-requires : tie.Need-listed-line-requires Inv-loop μ-loop
-listed-line-requires c κs = search needs
-
-enum-known-f : tie.Need-enum-known-f Inv-loop μ-loop
-enum-known-f c = search needs
-
-refused-fires-requires : tie.Need-refused-fires-requires Inv-loop μ-loop
-refused-fires-requires c κs = search needs
-
 returns : tie.Need-returns Inv-loop μ-loop
 returns c =
     let f = c .before .before .before .before in
@@ -41,21 +26,6 @@ returns c =
     let a = b .before .before .args in
     c .refused-fires .ensures ∙
     fires-refused (a .transitions) (a .count) (a .s .now) (a .at) (a .line) (b .loop .inv) (f .before .before .loop-test .taken) (sym (f .listed-line .ensures) ∙ c .before .before .f .given .1)
-
-enum-known-f-2 : tie.Need-enum-known-f-2 Inv-loop μ-loop
-enum-known-f-2 c = search needs
-
-mul-fires : tie.Need-mul-fires Inv-loop μ-loop
-mul-fires c = search needs
-
-array-write-fires : tie.Need-array-write-fires Inv-loop μ-loop
-array-write-fires c = search needs
-
-add-i : tie.Need-add-i Inv-loop μ-loop
-add-i c = search needs
-
-loop-less : tie.Need-loop-less Inv-loop μ-loop
-loop-less c = search needs
 
 loop-again : tie.Need-loop-again Inv-loop μ-loop
 loop-again c =
@@ -73,20 +43,5 @@ returns-2 c =
 pub fires-lines-spec : {M : Type 1} → statement M
 fires-lines-spec =
     tie.close
-    (tie.spec
-    Inv-loop
-    μ-loop
-    loop-holds
-    slice-aggregate-listed-line
-    add-listed-line
-    listed-line-requires
-    enum-known-f
-    refused-fires-requires
-    returns
-    enum-known-f-2
-    mul-fires
-    array-write-fires
-    add-i
-    loop-less
-    loop-again
-    returns-2)
+    (tie.spec Inv-loop μ-loop loop-holds (λ c. search needs) (λ c. search needs) (λ c κs. search needs) (λ c. search needs) (λ c κs. search needs)
+    returns (λ c. search needs) (λ c. search needs) (λ c. search needs) (λ c. search needs) (λ c. search needs) loop-again returns-2)

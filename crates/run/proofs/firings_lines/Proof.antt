@@ -19,21 +19,6 @@ loop-holds c =
     let b = c .before in
     firings-start (b .args .transitions) (b .args .count) (b .args .s .now) (b .args .at) (b .args .line) (b .pre .0)
 
-mul-firing-lines : tie.Need-mul-firing-lines Inv-loop μ-loop
-mul-firing-lines c = search needs
-
-add-firing-lines : tie.Need-add-firing-lines Inv-loop μ-loop
-add-firing-lines c = search needs
-
-firing-lines-requires : tie.Need-firing-lines-requires Inv-loop μ-loop
-firing-lines-requires c κs = search needs
-
-enum-known-f : tie.Need-enum-known-f Inv-loop μ-loop
-enum-known-f c = search needs
-
-refused-firings-requires : tie.Need-refused-firings-requires Inv-loop μ-loop
-refused-firings-requires c κs = search needs
-
 returns : tie.Need-returns Inv-loop μ-loop
 returns c =
     let f = c .before .before .before .before in
@@ -41,21 +26,6 @@ returns c =
     let a = b .before .before .args in
     c .refused-firings .ensures ∙
     firings-refused (a .transitions) (a .count) (a .s .now) (a .at) (a .line) (b .loop .inv) (f .before .loop-test .taken) (sym (f .firing-lines .ensures) ∙ c .before .before .f .given .1)
-
-enum-known-f-2 : tie.Need-enum-known-f-2 Inv-loop μ-loop
-enum-known-f-2 c = search needs
-
-mul-firings : tie.Need-mul-firings Inv-loop μ-loop
-mul-firings c = search needs
-
-array-set-from-firings : tie.Need-array-set-from-firings Inv-loop μ-loop
-array-set-from-firings c = search needs
-
-add-i : tie.Need-add-i Inv-loop μ-loop
-add-i c = search needs
-
-loop-less : tie.Need-loop-less Inv-loop μ-loop
-loop-less c = search needs
 
 loop-again : tie.Need-loop-again Inv-loop μ-loop
 loop-again c =
@@ -73,20 +43,5 @@ returns-2 c =
 pub firings-lines-spec : {M : Type 1} → statement M
 firings-lines-spec =
     tie.close
-    (tie.spec
-    Inv-loop
-    μ-loop
-    loop-holds
-    mul-firing-lines
-    add-firing-lines
-    firing-lines-requires
-    enum-known-f
-    refused-firings-requires
-    returns
-    enum-known-f-2
-    mul-firings
-    array-set-from-firings
-    add-i
-    loop-less
-    loop-again
-    returns-2)
+    (tie.spec Inv-loop μ-loop loop-holds (λ c. search needs) (λ c. search needs) (λ c κs. search needs) (λ c. search needs) (λ c κs. search needs)
+    returns (λ c. search needs) (λ c. search needs) (λ c. search needs) (λ c. search needs) (λ c. search needs) loop-again returns-2)

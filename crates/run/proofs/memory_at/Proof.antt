@@ -7,12 +7,6 @@ use Rattle.run.specs.Keys.{intermediateLine, atomicLine}
 use Rattle.run.proofs.memory_at.Statement.{statement}
 use Rattle.run.proofs.memory_at.Tie as tie
 
-slice-aggregate-begins-at : tie.Need-slice-aggregate-begins-at
-slice-aggregate-begins-at c = search needs
-
-begins-at-requires : tie.Need-begins-at-requires
-begins-at-requires c κs = search needs
-
 add-t10 : tie.Need-add-t10
 add-t10 c =
     let a = c .before .before .before .before .args in
@@ -20,12 +14,6 @@ add-t10 c =
 
 returns : tie.Need-returns
 returns c = rw (sym (c .before .begins-at .ensures) ∙ c .if1 .taken) refl
-
-slice-aggregate-begins-at-2 : tie.Need-slice-aggregate-begins-at-2
-slice-aggregate-begins-at-2 c = search needs
-
-begins-at-requires-2 : tie.Need-begins-at-requires-2
-begins-at-requires-2 c κs = search needs
 
 add-t15 : tie.Need-add-t15
 add-t15 c =
@@ -45,13 +33,4 @@ returns-3 c =
 pub memory-at-spec : {M : Type 1} → statement M
 memory-at-spec =
     tie.close
-    (tie.spec
-    slice-aggregate-begins-at
-    begins-at-requires
-    add-t10
-    returns
-    slice-aggregate-begins-at-2
-    begins-at-requires-2
-    add-t15
-    returns-2
-    returns-3)
+    (tie.spec (λ c. search needs) (λ c κs. search needs) add-t10 returns (λ c. search needs) (λ c κs. search needs) add-t15 returns-2 returns-3)

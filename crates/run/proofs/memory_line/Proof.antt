@@ -7,19 +7,10 @@ use Rattle.run.specs.Keys.{memoryKey}
 use Rattle.run.proofs.memory_line.Statement.{statement}
 use Rattle.run.proofs.memory_line.Tie as tie
 
-slice-aggregate-begins-at : tie.Need-slice-aggregate-begins-at
-slice-aggregate-begins-at c = search needs
-
-begins-at-requires : tie.Need-begins-at-requires
-begins-at-requires c κs = search needs
-
 add-memory-at : tie.Need-add-memory-at
 add-memory-at c =
     let a = c .before .before .before .before .args in
     omega (arith, begins-split memoryKey (a .s .now) (a .at) (sym (c .before .begins-at .ensures) ∙ c .if1 .taken) .1)
-
-memory-at-requires : tie.Need-memory-at-requires
-memory-at-requires c κs = search needs
 
 returns : tie.Need-returns
 returns c = c .memory-at .ensures ∙ rw (sym (c .before .before .begins-at .ensures) ∙ c .before .if1 .taken) refl
@@ -30,10 +21,4 @@ returns-2 c = rw (sym (c .before .begins-at .ensures) ∙ c .if1 .left) refl
 pub memory-line-spec : {M : Type 1} → statement M
 memory-line-spec =
     tie.close
-    (tie.spec
-    slice-aggregate-begins-at
-    begins-at-requires
-    add-memory-at
-    memory-at-requires
-    returns
-    returns-2)
+    (tie.spec (λ c. search needs) (λ c κs. search needs) add-memory-at (λ c κs. search needs) returns returns-2)

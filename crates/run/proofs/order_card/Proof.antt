@@ -6,15 +6,6 @@ use Rattle.run.proofs.Read.{order-stopped, order-few, order-whole, orde
 use Rattle.run.proofs.order_card.Statement.{statement}
 use Rattle.run.proofs.order_card.Tie as tie
 
-order-lines-requires : tie.Need-order-lines-requires
-order-lines-requires c κs = search needs
-
-enum-told : tie.Need-enum-told
-enum-told c = search needs
-
-enum-known-read : tie.Need-enum-known-read
-enum-known-read c = search needs
-
 returns : tie.Need-returns
 returns c =
     let l = c .before .before .before .before in
@@ -26,9 +17,6 @@ add-t8 c =
     let l = c .before .before .before .before in
     let a = l .before .before .args in
     omega (arith, order-few (a .transitions) (a .s .now) (l .order-lines .result) (l .order-lines .ensures) (c .before .before .read .given .1))
-
-refused-order-requires : tie.Need-refused-order-requires
-refused-order-requires c κs = search needs
 
 returns-2 : tie.Need-returns-2
 returns-2 c =
@@ -47,12 +35,4 @@ returns-3 c =
 pub order-card-spec : {M : Type 1} → statement M
 order-card-spec =
     tie.close
-    (tie.spec
-    order-lines-requires
-    enum-told
-    enum-known-read
-    returns
-    add-t8
-    refused-order-requires
-    returns-2
-    returns-3)
+    (tie.spec (λ c κs. search needs) (λ c. search needs) (λ c. search needs) returns add-t8 (λ c κs. search needs) returns-2 returns-3)

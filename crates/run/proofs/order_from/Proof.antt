@@ -5,18 +5,6 @@ use Rattle.run.proofs.Read.{fires-stopped, fires-read}
 use Rattle.run.proofs.order_from.Statement.{statement}
 use Rattle.run.proofs.order_from.Tie as tie
 
-fires-lines-requires : tie.Need-fires-lines-requires
-fires-lines-requires c κs = search needs
-
-enum-known-read : tie.Need-enum-known-read
-enum-known-read c = search needs
-
-refused-order-requires : tie.Need-refused-order-requires
-refused-order-requires c κs = search needs
-
-enum-known-read-2 : tie.Need-enum-known-read-2
-enum-known-read-2 c = search needs
-
 returns : tie.Need-returns
 returns c =
     let f = c .before .before .before .before in
@@ -33,10 +21,4 @@ returns-2 c =
 pub order-from-spec : {M : Type 1} → statement M
 order-from-spec =
     tie.close
-    (tie.spec
-    fires-lines-requires
-    enum-known-read
-    refused-order-requires
-    enum-known-read-2
-    returns
-    returns-2)
+    (tie.spec (λ c κs. search needs) (λ c. search needs) (λ c κs. search needs) (λ c. search needs) returns returns-2)

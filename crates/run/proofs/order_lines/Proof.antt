@@ -5,36 +5,6 @@ use Rattle.run.proofs.Read.{order-no-memory, order-no-count, order-read
 use Rattle.run.proofs.order_lines.Statement.{statement}
 use Rattle.run.proofs.order_lines.Tie as tie
 
-memory-line-requires : tie.Need-memory-line-requires
-memory-line-requires c κs = search needs
-
-enum-known-m : tie.Need-enum-known-m
-enum-known-m c = search needs
-
-refused-order-requires : tie.Need-refused-order-requires
-refused-order-requires c κs = search needs
-
-enum-known-m-2 : tie.Need-enum-known-m-2
-enum-known-m-2 c = search needs
-
-slice-aggregate-number-line : tie.Need-slice-aggregate-number-line
-slice-aggregate-number-line c = search needs
-
-number-line-requires : tie.Need-number-line-requires
-number-line-requires c κs = search needs
-
-enum-known-n : tie.Need-enum-known-n
-enum-known-n c = search needs
-
-refused-order-requires-2 : tie.Need-refused-order-requires-2
-refused-order-requires-2 c κs = search needs
-
-enum-known-n-2 : tie.Need-enum-known-n-2
-enum-known-n-2 c = search needs
-
-cast-order-from : tie.Need-cast-order-from
-cast-order-from c = search needs
-
 order-from-requires : tie.Need-order-from-requires
 order-from-requires c κs =
     let k = c .before .before .before in
@@ -69,18 +39,5 @@ returns-3 c =
 pub order-lines-spec : {M : Type 1} → statement M
 order-lines-spec =
     tie.close
-    (tie.spec
-    memory-line-requires
-    enum-known-m
-    refused-order-requires
-    enum-known-m-2
-    slice-aggregate-number-line
-    number-line-requires
-    enum-known-n
-    refused-order-requires-2
-    enum-known-n-2
-    cast-order-from
-    order-from-requires
-    returns
-    returns-2
-    returns-3)
+    (tie.spec (λ c κs. search needs) (λ c. search needs) (λ c κs. search needs) (λ c. search needs) (λ c. search needs) (λ c κs. search needs)
+    (λ c. search needs) (λ c κs. search needs) (λ c. search needs) (λ c. search needs) order-from-requires returns returns-2 returns-3)

@@ -17,22 +17,10 @@ loop-holds c =
     let a = c .before .args in
     writing-start (fire (a .transitions)) (a .count) 0 (a .t3) (a .out .now) (a .at)
 
-mul-put-fire-line : tie.Need-mul-put-fire-line Inv-loop μ-loop
-mul-put-fire-line c = search needs
-
-array-read-put-fire-line : tie.Need-array-read-put-fire-line Inv-loop μ-loop
-array-read-put-fire-line c = search needs
-
 put-fire-line-requires : tie.Need-put-fire-line-requires Inv-loop μ-loop
 put-fire-line-requires c κs =
     let b = c .before .before in
     writing-room (b .before .before .pre .1) (b .loop .inv) (c .before .loop-test .taken)
-
-add-i : tie.Need-add-i Inv-loop μ-loop
-add-i c = search needs
-
-loop-less : tie.Need-loop-less Inv-loop μ-loop
-loop-less c = search needs
 
 loop-again : tie.Need-loop-again Inv-loop μ-loop
 loop-again c =
@@ -52,15 +40,5 @@ returns c = writing-done (c .before .loop .inv) (c .loop-test .left)
 pub put-fires-spec : {M : Type 1} → statement M
 put-fires-spec =
     tie.close
-    (tie.spec
-    Inv-loop
-    μ-loop
-    loop-holds
-    mul-put-fire-line
-    array-read-put-fire-line
-    put-fire-line-requires
-    add-i
-    loop-less
-    loop-again
-    same-length
-    returns)
+    (tie.spec Inv-loop μ-loop loop-holds (λ c. search needs) (λ c. search needs) put-fire-line-requires (λ c. search needs) (λ c. search needs)
+    loop-again same-length returns)

@@ -8,22 +8,10 @@ use Rattle.run.specs.Keys.{waitKey, fireKey}
 use Rattle.run.proofs.put_firing.Statement.{statement}
 use Rattle.run.proofs.put_firing.Tie as tie
 
-slice-aggregate-put-number-line : tie.Need-slice-aggregate-put-number-line
-slice-aggregate-put-number-line c = search needs
-
-cast-put-number-line : tie.Need-cast-put-number-line
-cast-put-number-line c = search needs
-
 put-number-line-requires : tie.Need-put-number-line-requires
 put-number-line-requires c κs =
     let b = c .before .before .before .before in
     room-first (b .args .out .now) (b .args .at) (waitKey ++ field (b .args .f .wait) true) (fireKey ++ field (b .args .f .fire) true) (b .pre)
-
-slice-aggregate-put-number-line-2 : tie.Need-slice-aggregate-put-number-line-2
-slice-aggregate-put-number-line-2 c = search needs
-
-cast-put-number-line-2 : tie.Need-cast-put-number-line-2
-cast-put-number-line-2 c = search needs
 
 put-number-line-requires-2 : tie.Need-put-number-line-requires-2
 put-number-line-requires-2 c κs =
@@ -31,9 +19,6 @@ put-number-line-requires-2 c κs =
     let b = k .before .before .before .before .before in
     room-then (b .args .out .now) (b .args .at) (waitKey ++ field (b .args .f .wait) true) (fireKey ++ field (b .args .f .fire) true) (b .pre) (k .put-number-line .result)
     (k .put-number-line .last .0) (k .put-number-line .ensures)
-
-same-length : tie.Need-same-length
-same-length c = search needs
 
 returns : tie.Need-returns
 returns c =
@@ -46,12 +31,5 @@ returns c =
 pub put-firing-spec : {M : Type 1} → statement M
 put-firing-spec =
     tie.close
-    (tie.spec
-    slice-aggregate-put-number-line
-    cast-put-number-line
-    put-number-line-requires
-    slice-aggregate-put-number-line-2
-    cast-put-number-line-2
-    put-number-line-requires-2
-    same-length
-    returns)
+    (tie.spec (λ c. search needs) (λ c. search needs) put-number-line-requires (λ c. search needs) (λ c. search needs) put-number-line-requires-2
+    (λ c. search needs) returns)

@@ -17,22 +17,10 @@ loop-holds c =
     let a = c .before .args in
     writing-start (firing (a .transitions)) (a .count) noFiring (a .t3) (a .out .now) (a .at)
 
-mul-put-firing : tie.Need-mul-put-firing Inv-loop μ-loop
-mul-put-firing c = search needs
-
-array-copy-out-put-firing : tie.Need-array-copy-out-put-firing Inv-loop μ-loop
-array-copy-out-put-firing c = search needs
-
 put-firing-requires : tie.Need-put-firing-requires Inv-loop μ-loop
 put-firing-requires c κs =
     let b = c .before .before .before in
     writing-room (b .before .before .pre .1) (b .loop .inv) (c .before .before .loop-test .taken)
-
-add-i : tie.Need-add-i Inv-loop μ-loop
-add-i c = search needs
-
-loop-less : tie.Need-loop-less Inv-loop μ-loop
-loop-less c = search needs
 
 loop-again : tie.Need-loop-again Inv-loop μ-loop
 loop-again c =
@@ -52,15 +40,5 @@ returns c = writing-done (c .before .loop .inv) (c .loop-test .left)
 pub put-firings-spec : {M : Type 1} → statement M
 put-firings-spec =
     tie.close
-    (tie.spec
-    Inv-loop
-    μ-loop
-    loop-holds
-    mul-put-firing
-    array-copy-out-put-firing
-    put-firing-requires
-    add-i
-    loop-less
-    loop-again
-    same-length
-    returns)
+    (tie.spec Inv-loop μ-loop loop-holds (λ c. search needs) (λ c. search needs) put-firing-requires (λ c. search needs) (λ c. search needs)
+    loop-again same-length returns)

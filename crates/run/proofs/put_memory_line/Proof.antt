@@ -6,18 +6,6 @@ use Rattle.run.specs.Run.{memoryText}
 use Rattle.run.proofs.put_memory_line.Statement.{statement}
 use Rattle.run.proofs.put_memory_line.Tie as tie
 
-slice-aggregate-put-bytes : tie.Need-slice-aggregate-put-bytes
-slice-aggregate-put-bytes c = search needs
-
-put-bytes-requires : tie.Need-put-bytes-requires
-put-bytes-requires c κs = search needs
-
-enum-told : tie.Need-enum-told
-enum-told c = search needs
-
-slice-aggregate-put-bytes-2 : tie.Need-slice-aggregate-put-bytes-2
-slice-aggregate-put-bytes-2 c = search needs
-
 put-bytes-requires-2 : tie.Need-put-bytes-requires-2
 put-bytes-requires-2 c κs =
     let t = c .before .before in
@@ -25,21 +13,12 @@ put-bytes-requires-2 c κs =
     let b = k .before .before .before .before in
     rw (t .enum-told .given .1) at (room-then (b .args .out .now) (b .args .at) memoryKey (memoryText (b .args .m)) (b .pre) (k .put-bytes .result) (k .put-bytes .last .0) (k .put-bytes .ensures))
 
-enum-told-2 : tie.Need-enum-told-2
-enum-told-2 c = search needs
-
-slice-aggregate-put-bytes-3 : tie.Need-slice-aggregate-put-bytes-3
-slice-aggregate-put-bytes-3 c = search needs
-
 put-bytes-requires-3 : tie.Need-put-bytes-requires-3
 put-bytes-requires-3 c κs =
     let t = c .before .before in
     let k = t .before .before .before .before in
     let b = k .before .before .before .before in
     rw (t .enum-told2 .given .1) at (room-then (b .args .out .now) (b .args .at) memoryKey (memoryText (b .args .m)) (b .pre) (k .put-bytes .result) (k .put-bytes .last .0) (k .put-bytes .ensures))
-
-same-length : tie.Need-same-length
-same-length c = search needs
 
 returns : tie.Need-returns
 returns c =
@@ -49,9 +28,6 @@ returns c =
     let b = k .before .before .before .before in
     wrote-both (b .args .out .now) (b .args .at) memoryKey (memoryText (b .args .m)) (b .pre) (k .put-bytes .result) (k .put-bytes .last .0) (k .put-bytes .ensures)
     (w .put-bytes2 .result) (w .put-bytes2 .last .0) (rw (t .enum-told .given .1) (w .put-bytes2 .ensures))
-
-same-length-2 : tie.Need-same-length-2
-same-length-2 c = search needs
 
 returns-2 : tie.Need-returns-2
 returns-2 c =
@@ -65,16 +41,5 @@ returns-2 c =
 pub put-memory-line-spec : {M : Type 1} → statement M
 put-memory-line-spec =
     tie.close
-    (tie.spec
-    slice-aggregate-put-bytes
-    put-bytes-requires
-    enum-told
-    slice-aggregate-put-bytes-2
-    put-bytes-requires-2
-    enum-told-2
-    slice-aggregate-put-bytes-3
-    put-bytes-requires-3
-    same-length
-    returns
-    same-length-2
-    returns-2)
+    (tie.spec (λ c. search needs) (λ c κs. search needs) (λ c. search needs) (λ c. search needs) put-bytes-requires-2 (λ c. search needs)
+    (λ c. search needs) put-bytes-requires-3 (λ c. search needs) returns (λ c. search needs) returns-2)

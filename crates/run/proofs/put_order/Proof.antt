@@ -9,9 +9,6 @@ put-memory-line-requires c κs =
     let b = c .before .before in
     order-memory-room (b .args .transitions) (b .args .order) (b .args .out .now) (b .args .at) (b .pre .1)
 
-slice-aggregate-put-number-line : tie.Need-slice-aggregate-put-number-line
-slice-aggregate-put-number-line c = search needs
-
 put-number-line-requires : tie.Need-put-number-line-requires
 put-number-line-requires c κs =
     let m = c .before .before .before .before in
@@ -30,9 +27,6 @@ put-fires-requires c κs =
           (n .put-number-line .result) (n .put-number-line .last .0) (n .put-number-line .ensures),
     )
 
-same-length : tie.Need-same-length
-same-length c = search needs
-
 returns : tie.Need-returns
 returns c =
     let r = c .before .before in
@@ -47,10 +41,4 @@ returns c =
 pub put-order-spec : {M : Type 1} → statement M
 put-order-spec =
     tie.close
-    (tie.spec
-    put-memory-line-requires
-    slice-aggregate-put-number-line
-    put-number-line-requires
-    put-fires-requires
-    same-length
-    returns)
+    (tie.spec put-memory-line-requires (λ c. search needs) put-number-line-requires put-fires-requires (λ c. search needs) returns)

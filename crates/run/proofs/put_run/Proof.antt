@@ -9,21 +9,12 @@ put-memory-line-requires c κs =
     let b = c .before .before in
     run-memory-room (b .args .transitions) (b .args .run) (b .args .out .now) (b .args .at) (b .pre .1)
 
-slice-aggregate-put-number-line : tie.Need-slice-aggregate-put-number-line
-slice-aggregate-put-number-line c = search needs
-
-cast-put-number-line : tie.Need-cast-put-number-line
-cast-put-number-line c = search needs
-
 put-number-line-requires : tie.Need-put-number-line-requires
 put-number-line-requires c κs =
     let m = c .before .before .before .before .before in
     let b = m .before .before .before in
     run-denominator-room (b .args .transitions) (b .args .run) (b .args .out .now) (b .args .at) (b .pre .1)
     (m .put-memory-line .result) (m .put-memory-line .last .0) (m .put-memory-line .ensures)
-
-slice-aggregate-put-number-line-2 : tie.Need-slice-aggregate-put-number-line-2
-slice-aggregate-put-number-line-2 c = search needs
 
 put-number-line-requires-2 : tie.Need-put-number-line-requires-2
 put-number-line-requires-2 c κs =
@@ -47,12 +38,6 @@ put-firings-requires c κs =
           (n .put-number-line2 .result) (n .put-number-line2 .last .0) (n .put-number-line2 .ensures),
     )
 
-slice-aggregate-put-number-line-3 : tie.Need-slice-aggregate-put-number-line-3
-slice-aggregate-put-number-line-3 c = search needs
-
-cast-put-number-line-2 : tie.Need-cast-put-number-line-2
-cast-put-number-line-2 c = search needs
-
 put-number-line-requires-3 : tie.Need-put-number-line-requires-3
 put-number-line-requires-3 c κs =
     let f = c .before .before .before .before .before in
@@ -65,9 +50,6 @@ put-number-line-requires-3 c κs =
     (d .put-number-line .result) (d .put-number-line .last .0) (d .put-number-line .ensures)
     (n .put-number-line2 .result) (n .put-number-line2 .last .0) (n .put-number-line2 .ensures)
     (f .put-firings .result) (f .put-firings .last .0) (f .put-firings .ensures)
-
-same-length : tie.Need-same-length
-same-length c = search needs
 
 returns : tie.Need-returns
 returns c =
@@ -87,16 +69,5 @@ returns c =
 pub put-run-spec : {M : Type 1} → statement M
 put-run-spec =
     tie.close
-    (tie.spec
-    put-memory-line-requires
-    slice-aggregate-put-number-line
-    cast-put-number-line
-    put-number-line-requires
-    slice-aggregate-put-number-line-2
-    put-number-line-requires-2
-    put-firings-requires
-    slice-aggregate-put-number-line-3
-    cast-put-number-line-2
-    put-number-line-requires-3
-    same-length
-    returns)
+    (tie.spec put-memory-line-requires (λ c. search needs) (λ c. search needs) put-number-line-requires (λ c. search needs) put-number-line-requires-2
+    put-firings-requires (λ c. search needs) (λ c. search needs) put-number-line-requires-3 (λ c. search needs) returns)

@@ -6,15 +6,6 @@ use Rattle.run.proofs.Read.{run-stopped, run-few, run-whole, run-follow
 use Rattle.run.proofs.run_card.Statement.{statement}
 use Rattle.run.proofs.run_card.Tie as tie
 
-run-lines-requires : tie.Need-run-lines-requires
-run-lines-requires c κs = search needs
-
-enum-told : tie.Need-enum-told
-enum-told c = search needs
-
-enum-known-read : tie.Need-enum-known-read
-enum-known-read c = search needs
-
 returns : tie.Need-returns
 returns c =
     let l = c .before .before .before .before in
@@ -33,9 +24,6 @@ add-t10 c =
     let a = l .before .before .args in
     omega (arith, run-few (a .transitions) (a .s .now) (l .run-lines .result) (l .run-lines .ensures) (c .before .before .read .given .1))
 
-refused-run-requires : tie.Need-refused-run-requires
-refused-run-requires c κs = search needs
-
 returns-2 : tie.Need-returns-2
 returns-2 c =
     let l = c .before .before in
@@ -53,13 +41,4 @@ returns-3 c =
 pub run-card-spec : {M : Type 1} → statement M
 run-card-spec =
     tie.close
-    (tie.spec
-    run-lines-requires
-    enum-told
-    enum-known-read
-    returns
-    mul-t8
-    add-t10
-    refused-run-requires
-    returns-2
-    returns-3)
+    (tie.spec (λ c κs. search needs) (λ c. search needs) (λ c. search needs) returns mul-t8 add-t10 (λ c κs. search needs) returns-2 returns-3)

@@ -5,51 +5,6 @@ use Rattle.run.proofs.Read.{run-no-memory, run-no-denominator, run-no-c
 use Rattle.run.proofs.run_lines.Statement.{statement}
 use Rattle.run.proofs.run_lines.Tie as tie
 
-memory-line-requires : tie.Need-memory-line-requires
-memory-line-requires c κs = search needs
-
-enum-known-m : tie.Need-enum-known-m
-enum-known-m c = search needs
-
-refused-run-requires : tie.Need-refused-run-requires
-refused-run-requires c κs = search needs
-
-enum-known-m-2 : tie.Need-enum-known-m-2
-enum-known-m-2 c = search needs
-
-slice-aggregate-number-line : tie.Need-slice-aggregate-number-line
-slice-aggregate-number-line c = search needs
-
-number-line-requires : tie.Need-number-line-requires
-number-line-requires c κs = search needs
-
-enum-known-d : tie.Need-enum-known-d
-enum-known-d c = search needs
-
-refused-run-requires-2 : tie.Need-refused-run-requires-2
-refused-run-requires-2 c κs = search needs
-
-enum-known-d-2 : tie.Need-enum-known-d-2
-enum-known-d-2 c = search needs
-
-slice-aggregate-number-line-2 : tie.Need-slice-aggregate-number-line-2
-slice-aggregate-number-line-2 c = search needs
-
-number-line-requires-2 : tie.Need-number-line-requires-2
-number-line-requires-2 c κs = search needs
-
-enum-known-n : tie.Need-enum-known-n
-enum-known-n c = search needs
-
-refused-run-requires-3 : tie.Need-refused-run-requires-3
-refused-run-requires-3 c κs = search needs
-
-enum-known-n-2 : tie.Need-enum-known-n-2
-enum-known-n-2 c = search needs
-
-cast-step-lines : tie.Need-cast-step-lines
-cast-step-lines c = search needs
-
 step-lines-requires : tie.Need-step-lines-requires
 step-lines-requires c κs =
     let k = c .before .before .before in
@@ -101,24 +56,6 @@ returns-4 c =
 pub run-lines-spec : {M : Type 1} → statement M
 run-lines-spec =
     tie.close
-    (tie.spec
-    memory-line-requires
-    enum-known-m
-    refused-run-requires
-    enum-known-m-2
-    slice-aggregate-number-line
-    number-line-requires
-    enum-known-d
-    refused-run-requires-2
-    enum-known-d-2
-    slice-aggregate-number-line-2
-    number-line-requires-2
-    enum-known-n
-    refused-run-requires-3
-    enum-known-n-2
-    cast-step-lines
-    step-lines-requires
-    returns
-    returns-2
-    returns-3
-    returns-4)
+    (tie.spec (λ c κs. search needs) (λ c. search needs) (λ c κs. search needs) (λ c. search needs) (λ c. search needs) (λ c κs. search needs)
+    (λ c. search needs) (λ c κs. search needs) (λ c. search needs) (λ c. search needs) (λ c κs. search needs) (λ c. search needs)
+    (λ c κs. search needs) (λ c. search needs) (λ c. search needs) step-lines-requires returns returns-2 returns-3 returns-4)

@@ -23,9 +23,6 @@ enter-requires c κs =
     let p = c .before .before .before .before .before .before .before .pre in
     (listed-first p (omega arith), c .before .before .loop .inv .1)
 
-add-i : tie.Need-add-i Inv-loop μ-loop
-add-i c = search needs
-
 returns : tie.Need-returns Inv-loop μ-loop
 returns c =
     let start = c .before .before .before .before .before .before .before .before .before in
@@ -52,13 +49,4 @@ returns-2 c =
 pub find-earliest-spec : {M : Type 1} → statement M
 find-earliest-spec =
     tie.close
-    (tie.spec
-    Inv-loop
-    μ-loop
-    loop-holds
-    enter-requires
-    add-i
-    returns
-    loop-less
-    loop-again
-    returns-2)
+    (tie.spec Inv-loop μ-loop loop-holds enter-requires (λ c. search needs) returns loop-less loop-again returns-2)

@@ -15,32 +15,14 @@ Inv-loop x₀ origin low from k first₀ to₀ before₀ i₀ x first to before 
 abbrev μ-loop : tie.MeasureT-loop
 μ-loop x₀ origin low from k first₀ to₀ before₀ i₀ x first to before i = k - i
 
-mul-before : tie.Need-mul-before Inv-loop μ-loop
-mul-before c = search needs
-
-element-copy-out-before : tie.Need-element-copy-out-before Inv-loop μ-loop
-element-copy-out-before c = search needs
-
 loop-holds : tie.Need-loop-holds Inv-loop μ-loop
 loop-holds c = let start = c .before .before .before in let a = start .args in forth-start (entry (a .origin .now)) (entry (a .low .now)) (a .from) (a .k) (a .x .now) (start .pre .0 .4) (start .pre .1 .1 .0) (start .pre .1 .1 .1)
-
-mul-o : tie.Need-mul-o Inv-loop μ-loop
-mul-o c = search needs
-
-shared-slice-read-o : tie.Need-shared-slice-read-o Inv-loop μ-loop
-shared-slice-read-o c = search needs
 
 mul-later : tie.Need-mul-later Inv-loop μ-loop
 mul-later c = let turn = c .before in let start = turn .before .before .before .before .before in omega (arith, start .pre .1 .0 .0 (turn .before .loop .i) (turn .loop-test .taken))
 
 element-copy-out-later : tie.Need-element-copy-out-later Inv-loop μ-loop
 element-copy-out-later c = let turn = c .before in let start = turn .before .before .before .before .before in omega (arith, start .pre .1 .0 .0 (turn .before .loop .i) (turn .loop-test .taken))
-
-mul-later-2 : tie.Need-mul-later-2 Inv-loop μ-loop
-mul-later-2 c = search needs
-
-shared-slice-read-later : tie.Need-shared-slice-read-later Inv-loop μ-loop
-shared-slice-read-later c = search needs
 
 add-later : tie.Need-add-later Inv-loop μ-loop
 add-later c =
@@ -49,39 +31,6 @@ add-later c =
     let l = turn .before .loop in
     let o = start .pre .1 .0 .0 (l .i) (turn .loop-test .taken) in
     omega (arith, l .inv .swept .small (entry (start .args .origin .now) (l .i)) (omega arith), start .pre .1 .0 .1 (l .i) (omega arith))
-
-later-requires : tie.Need-later-requires Inv-loop μ-loop
-later-requires c κs = search needs
-
-add-before : tie.Need-add-before Inv-loop μ-loop
-add-before c = search needs
-
-mul-before-2 : tie.Need-mul-before-2 Inv-loop μ-loop
-mul-before-2 c = search needs
-
-element-copy-out-before-2 : tie.Need-element-copy-out-before-2 Inv-loop μ-loop
-element-copy-out-before-2 c = search needs
-
-add-x : tie.Need-add-x Inv-loop μ-loop
-add-x c = search needs
-
-mul-x : tie.Need-mul-x Inv-loop μ-loop
-mul-x c = search needs
-
-element-write-x : tie.Need-element-write-x Inv-loop μ-loop
-element-write-x c = search needs
-
-add-to : tie.Need-add-to Inv-loop μ-loop
-add-to c = search needs
-
-lower-requires : tie.Need-lower-requires Inv-loop μ-loop
-lower-requires c κs = search needs
-
-add-i : tie.Need-add-i Inv-loop μ-loop
-add-i c = search needs
-
-loop-less : tie.Need-loop-less Inv-loop μ-loop
-loop-less c = search needs
 
 loop-again : tie.Need-loop-again Inv-loop μ-loop
 loop-again c =
@@ -103,29 +52,7 @@ returns c = forth-stop (c .before .loop .inv) (c .loop-test .left)
 pub forward-spec : {M : Type 1} → statement M
 forward-spec =
     tie.close
-    (tie.spec
-    Inv-loop
-    μ-loop
-    mul-before
-    element-copy-out-before
-    loop-holds
-    mul-o
-    shared-slice-read-o
-    mul-later
-    element-copy-out-later
-    mul-later-2
-    shared-slice-read-later
-    add-later
-    later-requires
-    add-before
-    mul-before-2
-    element-copy-out-before-2
-    add-x
-    mul-x
-    element-write-x
-    add-to
-    lower-requires
-    add-i
-    loop-less
-    loop-again
-    returns)
+    (tie.spec Inv-loop μ-loop (λ c. search needs) (λ c. search needs) loop-holds (λ c. search needs) (λ c. search needs) mul-later
+    element-copy-out-later (λ c. search needs) (λ c. search needs) add-later (λ c κs. search needs) (λ c. search needs) (λ c. search needs)
+    (λ c. search needs) (λ c. search needs) (λ c. search needs) (λ c. search needs) (λ c. search needs) (λ c κs. search needs) (λ c. search needs)
+    (λ c. search needs) loop-again returns)

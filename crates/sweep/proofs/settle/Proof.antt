@@ -17,9 +17,6 @@ Inv-loop x₀ origin low closed high k top₀ bottom₀ round₀ x top bottom ro
 abbrev μ-loop : tie.MeasureT-loop
 μ-loop x₀ origin low closed high k top₀ bottom₀ round₀ x top bottom round = 65 - round
 
-sub-bottom : tie.Need-sub-bottom Inv-loop μ-loop
-sub-bottom c = search needs
-
 loop-holds : tie.Need-loop-holds Inv-loop μ-loop
 loop-holds c =
     let start = c .before .before .before .before in
@@ -53,9 +50,6 @@ returns-3 c = settle-done (c .before .before .before .before .before .before .be
 returns-4 : tie.Need-returns-4 Inv-loop μ-loop
 returns-4 c = settle-above (c .before .before .before .before .before .before .before .before .before .loop .inv) (c .before .before .before .before .before .before .backward .ensures) (c .before .before .forward .ensures .0) (c .if4 .taken)
 
-add-round : tie.Need-add-round Inv-loop μ-loop
-add-round c = search needs
-
 loop-less : tie.Need-loop-less Inv-loop μ-loop
 loop-less c = omega arith
 
@@ -73,18 +67,5 @@ returns-5 c = settle-spent (c .before .loop .inv) (c .loop-test .left)
 pub settle-spec : {M : Type 1} → statement M
 settle-spec =
     tie.close
-    (tie.spec
-    Inv-loop
-    μ-loop
-    sub-bottom
-    loop-holds
-    backward-requires
-    returns
-    returns-2
-    forward-requires
-    returns-3
-    returns-4
-    add-round
-    loop-less
-    loop-again
-    returns-5)
+    (tie.spec Inv-loop μ-loop (λ c. search needs) loop-holds backward-requires returns returns-2 forward-requires returns-3 returns-4
+    (λ c. search needs) loop-less loop-again returns-5)

@@ -19,9 +19,6 @@ returns c =
     let a = c .before .args in
     begins-behind (a .s .now) (a .at) (a .key .now) (c .if1 .taken)
 
-sub-if2 : tie.Need-sub-if2 Inv-bytes μ-bytes
-sub-if2 c = search needs
-
 returns-2 : tie.Need-returns-2 Inv-bytes μ-bytes
 returns-2 c =
     let a = c .before .before .args in
@@ -30,25 +27,10 @@ returns-2 c =
 bytes-holds : tie.Need-bytes-holds Inv-bytes μ-bytes
 bytes-holds c = begins-start _ _ _
 
-add-if3 : tie.Need-add-if3 Inv-bytes μ-bytes
-add-if3 c = search needs
-
-shared-slice-read-if3 : tie.Need-shared-slice-read-if3 Inv-bytes μ-bytes
-shared-slice-read-if3 c = search needs
-
-shared-slice-read-if3-2 : tie.Need-shared-slice-read-if3-2 Inv-bytes μ-bytes
-shared-slice-read-if3-2 c = search needs
-
 returns-3 : tie.Need-returns-3 Inv-bytes μ-bytes
 returns-3 c =
     let b = c .before .before .before in
     begins-differs _ _ _ _ (b .before .bytes .inv) (b .bytes-test .taken) (omega arith) (c .if3 .taken)
-
-add-i : tie.Need-add-i Inv-bytes μ-bytes
-add-i c = search needs
-
-bytes-less : tie.Need-bytes-less Inv-bytes μ-bytes
-bytes-less c = search needs
 
 bytes-again : tie.Need-bytes-again Inv-bytes μ-bytes
 bytes-again c =
@@ -61,18 +43,5 @@ returns-4 c = begins-all _ _ _ _ (c .before .bytes .inv) (c .bytes-test .left)
 pub begins-at-spec : {M : Type 1} → statement M
 begins-at-spec =
     tie.close
-    (tie.spec
-    Inv-bytes
-    μ-bytes
-    returns
-    sub-if2
-    returns-2
-    bytes-holds
-    add-if3
-    shared-slice-read-if3
-    shared-slice-read-if3-2
-    returns-3
-    add-i
-    bytes-less
-    bytes-again
-    returns-4)
+    (tie.spec Inv-bytes μ-bytes returns (λ c. search needs) returns-2 bytes-holds (λ c. search needs) (λ c. search needs) (λ c. search needs)
+    returns-3 (λ c. search needs) (λ c. search needs) bytes-again returns-4)

@@ -20,4 +20,6 @@ returns-5 : tie.Need-returns-5
 returns-5 c = simp (le-leb _ _ (c .before .if1 .left), lt-leb _ 57 (c .if2 .left), ne-eqb _ 44 (c .before .before .match .rest .0 .1), ne-eqb _ 10 (c .before .before .match .rest .1))
 
 pub class-of-spec : {M : Type 1} → statement M
-class-of-spec = tie.close (tie.spec returns returns-2 returns-3 returns-4 returns-5)
+class-of-spec =
+    tie.close
+    (tie.spec returns returns-2 returns-3 returns-4 returns-5)

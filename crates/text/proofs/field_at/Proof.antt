@@ -19,15 +19,6 @@ returns c =
     let a = c .before .before .args in
     field-nothing (a .s .now) (a .at) (a .last) (digits-end (a .s .now) (a .at) (c .if1 .taken))
 
-shared-slice-read-class-of : tie.Need-shared-slice-read-class-of Inv-loop μ-loop
-shared-slice-read-class-of c = search needs
-
-class-of-requires : tie.Need-class-of-requires Inv-loop μ-loop
-class-of-requires c κs = search needs
-
-enum-known-c : tie.Need-enum-known-c Inv-loop μ-loop
-enum-known-c c = search needs
-
 returns-2 : tie.Need-returns-2 Inv-loop μ-loop
 returns-2 c =
     let a = c .before .before .before .before .before .args in
@@ -35,26 +26,11 @@ returns-2 c =
     field-nothing (a .s .now) (a .at) (a .last)
     (digits-stop (a .s .now) (a .at) (c .before .before .before .if1 .left) (class-none b _ (sym (c .before .class-of .ensures)) (c .match .keys2)))
 
-cast-v : tie.Need-cast-v Inv-loop μ-loop
-cast-v c = search needs
-
-add-i : tie.Need-add-i Inv-loop μ-loop
-add-i c = search needs
-
 loop-holds : tie.Need-loop-holds Inv-loop μ-loop
 loop-holds c =
     let a = c .before .before .before .before .before .before .before .args in
     run-start (a .s .now) (a .at) _ (c .before .before .before .before .before .if1 .left)
     (sym (c .before .before .before .class-of .ensures) ∙ c .before .c .given .1)
-
-shared-slice-read-class-of-2 : tie.Need-shared-slice-read-class-of-2 Inv-loop μ-loop
-shared-slice-read-class-of-2 c = search needs
-
-class-of-requires-2 : tie.Need-class-of-requires-2 Inv-loop μ-loop
-class-of-requires-2 c κs = search needs
-
-enum-known-c-2 : tie.Need-enum-known-c-2 Inv-loop μ-loop
-enum-known-c-2 c = search needs
 
 returns-3 : tie.Need-returns-3 Inv-loop μ-loop
 returns-3 c =
@@ -63,9 +39,6 @@ returns-3 c =
     let a = q .before .before .before .before .before .before .before .before .before .before .before .args in
     run-zero (a .s .now) (a .at) _ (l .v) (l .i) (l .inv)
     _ (q .before .before .loop-test .taken) (sym (q .class-of2 .ensures) ∙ c .before .before .c2 .given .1) (a .last) (c .if2 .taken)
-
-sub-if3 : tie.Need-sub-if3 Inv-loop μ-loop
-sub-if3 c = search needs
 
 returns-4 : tie.Need-returns-4 Inv-loop μ-loop
 returns-4 c =
@@ -87,23 +60,8 @@ loop-again c =
 mul-v : tie.Need-mul-v Inv-loop μ-loop
 mul-v c = let m = loop-again c in omega (arith, small _ _ (m .small) (m .few))
 
-cast-v-2 : tie.Need-cast-v-2 Inv-loop μ-loop
-cast-v-2 c = search needs
-
 add-v : tie.Need-add-v Inv-loop μ-loop
 add-v c = let m = loop-again c in omega (arith, small _ _ (m .small) (m .few))
-
-add-i-2 : tie.Need-add-i-2 Inv-loop μ-loop
-add-i-2 c = search needs
-
-loop-less : tie.Need-loop-less Inv-loop μ-loop
-loop-less c = search needs
-
-enum-told : tie.Need-enum-told Inv-loop μ-loop
-enum-told c = search needs
-
-ended-requires : tie.Need-ended-requires Inv-loop μ-loop
-ended-requires c κs = search needs
 
 returns-5 : tie.Need-returns-5 Inv-loop μ-loop
 returns-5 c =
@@ -113,12 +71,6 @@ returns-5 c =
     c .ended .ensures ∙ run-line-end (a .s .now) (a .at) _ (l .v) (l .i) (l .inv)
     (a .last) (q .before .before .loop-test .taken) (sym (q .class-of2 .ensures) ∙ c .before .enum-told .given .1)
 
-enum-told-2 : tie.Need-enum-told-2 Inv-loop μ-loop
-enum-told-2 c = search needs
-
-ended-requires-2 : tie.Need-ended-requires-2 Inv-loop μ-loop
-ended-requires-2 c κs = search needs
-
 returns-6 : tie.Need-returns-6 Inv-loop μ-loop
 returns-6 c =
     let q = c .before .before .before in
@@ -126,9 +78,6 @@ returns-6 c =
     let a = q .before .before .before .before .before .before .before .before .before .before .before .args in
     c .ended2 .ensures ∙ run-comma (a .s .now) (a .at) _ (l .v) (l .i) (l .inv)
     (a .last) (q .before .before .loop-test .taken) (sym (q .class-of2 .ensures) ∙ c .before .enum-told2 .given .1)
-
-enum-told-3 : tie.Need-enum-told-3 Inv-loop μ-loop
-enum-told-3 c = search needs
 
 returns-7 : tie.Need-returns-7 Inv-loop μ-loop
 returns-7 c =
@@ -147,35 +96,7 @@ returns-8 c =
 pub field-at-spec : {M : Type 1} → statement M
 field-at-spec =
     tie.close
-    (tie.spec
-    Inv-loop
-    μ-loop
-    returns
-    shared-slice-read-class-of
-    class-of-requires
-    enum-known-c
-    returns-2
-    cast-v
-    add-i
-    loop-holds
-    shared-slice-read-class-of-2
-    class-of-requires-2
-    enum-known-c-2
-    returns-3
-    sub-if3
-    returns-4
-    mul-v
-    cast-v-2
-    add-v
-    add-i-2
-    loop-less
-    loop-again
-    enum-told
-    ended-requires
-    returns-5
-    enum-told-2
-    ended-requires-2
-    returns-6
-    enum-told-3
-    returns-7
-    returns-8)
+    (tie.spec Inv-loop μ-loop returns (λ c. search needs) (λ c κs. search needs) (λ c. search needs) returns-2 (λ c. search needs) (λ c. search needs)
+    loop-holds (λ c. search needs) (λ c κs. search needs) (λ c. search needs) returns-3 (λ c. search needs) returns-4 mul-v (λ c. search needs) add-v
+    (λ c. search needs) (λ c. search needs) loop-again (λ c. search needs) (λ c κs. search needs) returns-5 (λ c. search needs) (λ c κs. search needs)
+    returns-6 (λ c. search needs) returns-7 returns-8)

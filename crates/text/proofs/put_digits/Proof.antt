@@ -33,15 +33,6 @@ loop-holds c = row-start _ _ (omega arith) refl refl
 sub-i : tie.Need-sub-i Inv-loop μ-loop
 sub-i c = room (c .before)
 
-add-digits : tie.Need-add-digits Inv-loop μ-loop
-add-digits c = search needs
-
-cast-digits : tie.Need-cast-digits Inv-loop μ-loop
-cast-digits c = search needs
-
-array-write-digits : tie.Need-array-write-digits Inv-loop μ-loop
-array-write-digits c = search needs
-
 loop-less : tie.Need-loop-less Inv-loop μ-loop
 loop-less c = omega (arith, room (c .before))
 
@@ -51,21 +42,6 @@ loop-again c = let l = c .before .loop in row-more (c .before .before .before .a
 sub-i-2 : tie.Need-sub-i-2 Inv-loop μ-loop
 sub-i-2 c = room (c .before)
 
-add-digits-2 : tie.Need-add-digits-2 Inv-loop μ-loop
-add-digits-2 c = search needs
-
-cast-digits-2 : tie.Need-cast-digits-2 Inv-loop μ-loop
-cast-digits-2 c = search needs
-
-array-write-digits-2 : tie.Need-array-write-digits-2 Inv-loop μ-loop
-array-write-digits-2 c = search needs
-
-sub-put-bytes : tie.Need-sub-put-bytes Inv-loop μ-loop
-sub-put-bytes c = search needs
-
-part-put-bytes-start : tie.Need-part-put-bytes-start Inv-loop μ-loop
-part-put-bytes-start c = search needs
-
 part-put-bytes-end : tie.Need-part-put-bytes-end Inv-loop μ-loop
 part-put-bytes-end c =
     let l = c .before .before .before .loop in
@@ -74,32 +50,12 @@ part-put-bytes-end c =
 put-bytes-requires : tie.Need-put-bytes-requires Inv-loop μ-loop
 put-bytes-requires c κs = rw (copied (c .before .before .before)) (search needs)
 
-same-length : tie.Need-same-length Inv-loop μ-loop
-same-length c = search needs
-
 returns : tie.Need-returns Inv-loop μ-loop
 returns c = rw (copied (c .before .before .before .before .before .before)) at (c .before .before .put-bytes .ensures)
 
 pub put-digits-spec : {M : Type 1} → statement M
 put-digits-spec =
     tie.close
-    (tie.spec
-    Inv-loop
-    μ-loop
-    loop-holds
-    sub-i
-    add-digits
-    cast-digits
-    array-write-digits
-    loop-less
-    loop-again
-    sub-i-2
-    add-digits-2
-    cast-digits-2
-    array-write-digits-2
-    sub-put-bytes
-    part-put-bytes-start
-    part-put-bytes-end
-    put-bytes-requires
-    same-length
-    returns)
+    (tie.spec Inv-loop μ-loop loop-holds sub-i (λ c. search needs) (λ c. search needs) (λ c. search needs) loop-less loop-again sub-i-2
+    (λ c. search needs) (λ c. search needs) (λ c. search needs) (λ c. search needs) (λ c. search needs) part-put-bytes-end put-bytes-requires
+    (λ c. search needs) returns)

@@ -9,12 +9,6 @@ returns c =
     let a = c .before .before .args in
     separated-short (a .s .now) (a .at) (a .last) (c .if1 .taken)
 
-shared-slice-read-result : tie.Need-shared-slice-read-result
-shared-slice-read-result c = search needs
-
-separator-of-requires : tie.Need-separator-of-requires
-separator-of-requires c κs = search needs
-
 returns-2 : tie.Need-returns-2
 returns-2 c =
     let a = c .before .before .before .before .args in
@@ -22,4 +16,5 @@ returns-2 c =
 
 pub separated-spec : {M : Type 1} → statement M
 separated-spec =
-    tie.close (tie.spec returns shared-slice-read-result separator-of-requires returns-2)
+    tie.close
+    (tie.spec returns (λ c. search needs) (λ c κs. search needs) returns-2)

@@ -19,28 +19,10 @@ rows-long : (w : tie.After-rows-of Inv-loop μ-loop) →
     (length (w .rows-of .result .take) ≡ 512) × (length (w .rows-of .result .give) ≡ 512) × (length (w .rows-of .result .column) ≡ 512)
 rows-long w = search needs
 
-rows-of-requires : tie.Need-rows-of-requires Inv-loop μ-loop
-rows-of-requires c κs = search needs
-
-narrowed-requires : tie.Need-narrowed-requires Inv-loop μ-loop
-narrowed-requires c κs = search needs
-
 loop-holds : tie.Need-loop-holds Inv-loop μ-loop
 loop-holds c =
     let a = c .before .before .before .before .before .before .args in
     collecting-start (a .t1) (a .t2) (record { marking = c .narrowed .result; since = replicate 32 0; now = 0 }) (c .narrowed .ensures) refl refl (search needs)
-
-mul-index : tie.Need-mul-index Inv-loop μ-loop
-mul-index c = search needs
-
-element-copy-out-index : tie.Need-element-copy-out-index Inv-loop μ-loop
-element-copy-out-index c = search needs
-
-index-requires : tie.Need-index-requires Inv-loop μ-loop
-index-requires c κs = search needs
-
-add-t33 : tie.Need-add-t33 Inv-loop μ-loop
-add-t33 c = search needs
 
 returns : tie.Need-returns Inv-loop μ-loop
 returns c =
@@ -52,18 +34,6 @@ returns c =
     collecting-unlisted (a .t1) (a .t2) (v .origin) (v .low) (v .closed) (v .high) (record { marking = v .marking; since = v .since; now = v .i }) (v .i) (v .inv) (l .loop-test .taken) (x .index .result) (x .index .ensures)
     (c .if1 .taken)
 
-slice-aggregate-judge-tokens : tie.Need-slice-aggregate-judge-tokens Inv-loop μ-loop
-slice-aggregate-judge-tokens c = search needs
-
-slice-aggregate-judge-tokens-2 : tie.Need-slice-aggregate-judge-tokens-2 Inv-loop μ-loop
-slice-aggregate-judge-tokens-2 c = search needs
-
-slice-aggregate-judge-tokens-3 : tie.Need-slice-aggregate-judge-tokens-3 Inv-loop μ-loop
-slice-aggregate-judge-tokens-3 c = search needs
-
-add-judge-tokens : tie.Need-add-judge-tokens Inv-loop μ-loop
-add-judge-tokens c = search needs
-
 judge-tokens-requires : tie.Need-judge-tokens-requires Inv-loop μ-loop
 judge-tokens-requires c κs =
     let e = c .before .before .before in
@@ -71,12 +41,6 @@ judge-tokens-requires c κs =
     let w = b .before .before .before .before .before in
     let s = w .before .before in
     (s .pre .0, omega (arith, e .if1 .left, s .pre), rows-long w .0, rows-long w .1, b .loop .inv .slots .0)
-
-enum-told : tie.Need-enum-told Inv-loop μ-loop
-enum-told c = search needs
-
-enum-told-2 : tie.Need-enum-told-2 Inv-loop μ-loop
-enum-told-2 c = search needs
 
 returns-2 : tie.Need-returns-2 Inv-loop μ-loop
 returns-2 c =
@@ -91,51 +55,6 @@ returns-2 c =
     collecting-refused (s .args .t1) (s .args .t2) (v .origin) (v .low) (v .closed) (v .high) (record { marking = v .marking; since = v .since; now = v .i }) (v .i) (v .inv) (l .loop-test .taken) (x .index .result)
     (x .index .ensures) (w .rows-of .result) (w .rows-of .ensures) (e .if1 .left) (j .judge-tokens .result) (j .judge-tokens .ensures) _ (c .enum-told2 .given .1)
 
-mul-tr : tie.Need-mul-tr Inv-loop μ-loop
-mul-tr c = search needs
-
-element-copy-out-tr : tie.Need-element-copy-out-tr Inv-loop μ-loop
-element-copy-out-tr c = search needs
-
-bound-of-requires : tie.Need-bound-of-requires Inv-loop μ-loop
-bound-of-requires c κs = search needs
-
-mul-origin : tie.Need-mul-origin Inv-loop μ-loop
-mul-origin c = search needs
-
-array-read-origin : tie.Need-array-read-origin Inv-loop μ-loop
-array-read-origin c = search needs
-
-mul-origin-2 : tie.Need-mul-origin-2 Inv-loop μ-loop
-mul-origin-2 c = search needs
-
-array-write-origin : tie.Need-array-write-origin Inv-loop μ-loop
-array-write-origin c = search needs
-
-cast-low : tie.Need-cast-low Inv-loop μ-loop
-cast-low c = search needs
-
-mul-low : tie.Need-mul-low Inv-loop μ-loop
-mul-low c = search needs
-
-array-write-low : tie.Need-array-write-low Inv-loop μ-loop
-array-write-low c = search needs
-
-array-write-closed : tie.Need-array-write-closed Inv-loop μ-loop
-array-write-closed c = search needs
-
-mul-high : tie.Need-mul-high Inv-loop μ-loop
-mul-high c = search needs
-
-array-write-high : tie.Need-array-write-high Inv-loop μ-loop
-array-write-high c = search needs
-
-add-i : tie.Need-add-i Inv-loop μ-loop
-add-i c = search needs
-
-slice-aggregate-fire : tie.Need-slice-aggregate-fire Inv-loop μ-loop
-slice-aggregate-fire c = search needs
-
 slice-aggregate-fire-2 : tie.Need-slice-aggregate-fire-2 Inv-loop μ-loop
 slice-aggregate-fire-2 c =
     let p = c .before .before .before .before .before in
@@ -148,12 +67,6 @@ slice-aggregate-fire-3 c =
     let b = p .before .before .before .before .before .before .before .before .before .before in
     sym (rows-long (b .before .before .before .before .before) .2)
 
-slice-aggregate-fire-4 : tie.Need-slice-aggregate-fire-4 Inv-loop μ-loop
-slice-aggregate-fire-4 c = search needs
-
-slice-aggregate-fire-5 : tie.Need-slice-aggregate-fire-5 Inv-loop μ-loop
-slice-aggregate-fire-5 c = search needs
-
 fire-requires : tie.Need-fire-requires Inv-loop μ-loop
 fire-requires c κs =
     let p = c .before .before .before .before .before .before .before .before in
@@ -165,9 +78,6 @@ fire-requires c κs =
       (s .pre .0, omega (arith, e .if1 .left, s .pre), rows-long w .0, rows-long w .1, rows-long w .2, b .loop .inv .slots .0, b .loop .inv .slots .1),
       (allowed-tokens _ _ _ _ _ _ (sym (j .judge-tokens .ensures) ∙ p .enum-told .given .1), (w .rows-of .ensures .blank, w .rows-of .ensures .columns)),
     )
-
-loop-less : tie.Need-loop-less Inv-loop μ-loop
-loop-less c = search needs
 
 loop-again : tie.Need-loop-again Inv-loop μ-loop
 loop-again c =
@@ -196,45 +106,9 @@ returns-3 c =
 pub collect-spec : {M : Type 1} → statement M
 collect-spec =
     tie.close
-    (tie.spec
-    Inv-loop
-    μ-loop
-    rows-of-requires
-    narrowed-requires
-    loop-holds
-    mul-index
-    element-copy-out-index
-    index-requires
-    add-t33
-    returns
-    slice-aggregate-judge-tokens
-    slice-aggregate-judge-tokens-2
-    slice-aggregate-judge-tokens-3
-    add-judge-tokens
-    judge-tokens-requires
-    enum-told
-    enum-told-2
-    returns-2
-    mul-tr
-    element-copy-out-tr
-    bound-of-requires
-    mul-origin
-    array-read-origin
-    mul-origin-2
-    array-write-origin
-    cast-low
-    mul-low
-    array-write-low
-    array-write-closed
-    mul-high
-    array-write-high
-    add-i
-    slice-aggregate-fire
-    slice-aggregate-fire-2
-    slice-aggregate-fire-3
-    slice-aggregate-fire-4
-    slice-aggregate-fire-5
-    fire-requires
-    loop-less
-    loop-again
-    returns-3)
+    (tie.spec Inv-loop μ-loop (λ c κs. search needs) (λ c κs. search needs) loop-holds (λ c. search needs) (λ c. search needs) (λ c κs. search needs)
+    (λ c. search needs) returns (λ c. search needs) (λ c. search needs) (λ c. search needs) (λ c. search needs) judge-tokens-requires
+    (λ c. search needs) (λ c. search needs) returns-2 (λ c. search needs) (λ c. search needs) (λ c κs. search needs) (λ c. search needs)
+    (λ c. search needs) (λ c. search needs) (λ c. search needs) (λ c. search needs) (λ c. search needs) (λ c. search needs) (λ c. search needs)
+    (λ c. search needs) (λ c. search needs) (λ c. search needs) (λ c. search needs) slice-aggregate-fire-2 slice-aggregate-fire-3 (λ c. search needs)
+    (λ c. search needs) fire-requires (λ c. search needs) loop-again returns-3)

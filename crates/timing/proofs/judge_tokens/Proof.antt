@@ -6,15 +6,6 @@ use Rattle.timing.specs.Collect.{tokensIn}
 use Rattle.timing.proofs.judge_tokens.Statement.{statement}
 use Rattle.timing.proofs.judge_tokens.Tie as tie
 
-mul-enough : tie.Need-mul-enough
-mul-enough c = search needs
-
-enough-requires : tie.Need-enough-requires
-enough-requires c κs = search needs
-
-mul-within-limit : tie.Need-mul-within-limit
-mul-within-limit c = search needs
-
 within-limit-requires : tie.Need-within-limit-requires
 within-limit-requires c κs =
     let k = c .before in
@@ -42,11 +33,4 @@ returns-3 c = rw (sym (c .before .enough .ensures) ∙ c .if1 .left) refl
 pub judge-tokens-spec : {M : Type 1} → statement M
 judge-tokens-spec =
     tie.close
-    (tie.spec
-    mul-enough
-    enough-requires
-    mul-within-limit
-    within-limit-requires
-    returns
-    returns-2
-    returns-3)
+    (tie.spec (λ c. search needs) (λ c κs. search needs) (λ c. search needs) within-limit-requires returns returns-2 returns-3)

@@ -19,29 +19,8 @@ wait-short : (c : tie.After-struct-known Inv-loop μ-loop)
     → getD (c .before .before .before .before .args .t1 .firings) (c .before .before .before .loop .i) noFiring .wait ≤ 4294967295
 wait-short c = omega arith
 
-cast-d : tie.Need-cast-d Inv-loop μ-loop
-cast-d c = search needs
-
 loop-holds : tie.Need-loop-holds Inv-loop μ-loop
 loop-holds c = rounding-start (c .args .t1)
-
-mul-f : tie.Need-mul-f Inv-loop μ-loop
-mul-f c = search needs
-
-element-copy-out-f : tie.Need-element-copy-out-f Inv-loop μ-loop
-element-copy-out-f c = search needs
-
-cast-later : tie.Need-cast-later Inv-loop μ-loop
-cast-later c = search needs
-
-add-later : tie.Need-add-later Inv-loop μ-loop
-add-later c = search needs
-
-div-t19 : tie.Need-div-t19 Inv-loop μ-loop
-div-t19 c = search needs
-
-div-t20 : tie.Need-div-t20 Inv-loop μ-loop
-div-t20 c = search needs
 
 sub-t21 : tie.Need-sub-t21 Inv-loop μ-loop
 sub-t21 c =
@@ -55,34 +34,10 @@ cast-t22 c =
     let a = l .before .args in
     omega (arith, wait-short c, rounded-short (a .t1 .denominator) (l .before .pre .1) (l .loop .s) (getD (a .t1 .firings) (l .loop .i) noFiring .wait))
 
-mul-firings : tie.Need-mul-firings Inv-loop μ-loop
-mul-firings c = search needs
-
-array-set-from-firings : tie.Need-array-set-from-firings Inv-loop μ-loop
-array-set-from-firings c = search needs
-
-add-i : tie.Need-add-i Inv-loop μ-loop
-add-i c = search needs
-
-loop-less : tie.Need-loop-less Inv-loop μ-loop
-loop-less c = search needs
-
 loop-again : tie.Need-loop-again Inv-loop μ-loop
 loop-again c =
     let l = c .before .before .before in
     rounding-more (l .before .args .t1) (l .loop .inv) (c .before .before .loop-test .taken) (l .before .pre .0) (wait-short c)
-
-cast-end : tie.Need-cast-end Inv-loop μ-loop
-cast-end c = search needs
-
-add-end : tie.Need-add-end Inv-loop μ-loop
-add-end c = search needs
-
-div-t25 : tie.Need-div-t25 Inv-loop μ-loop
-div-t25 c = search needs
-
-div-t27 : tie.Need-div-t27 Inv-loop μ-loop
-div-t27 c = search needs
 
 sub-t28 : tie.Need-sub-t28 Inv-loop μ-loop
 sub-t28 c = rounded-up (c .before .before .args .t1 .denominator) (c .before .before .pre .1) (c .before .loop .s) (c .before .before .args .t1 .rest)
@@ -98,28 +53,6 @@ returns c = rounding-done (c .before .before .args .t1) (c .before .loop .inv) (
 pub rounded-run-spec : {M : Type 1} → statement M
 rounded-run-spec =
     tie.close
-    (tie.spec
-    Inv-loop
-    μ-loop
-    cast-d
-    loop-holds
-    mul-f
-    element-copy-out-f
-    cast-later
-    add-later
-    div-t19
-    div-t20
-    sub-t21
-    cast-t22
-    mul-firings
-    array-set-from-firings
-    add-i
-    loop-less
-    loop-again
-    cast-end
-    add-end
-    div-t25
-    div-t27
-    sub-t28
-    cast-t13
-    returns)
+    (tie.spec Inv-loop μ-loop (λ c. search needs) loop-holds (λ c. search needs) (λ c. search needs) (λ c. search needs) (λ c. search needs)
+    (λ c. search needs) (λ c. search needs) sub-t21 cast-t22 (λ c. search needs) (λ c. search needs) (λ c. search needs) (λ c. search needs)
+    loop-again (λ c. search needs) (λ c. search needs) (λ c. search needs) (λ c. search needs) sub-t28 cast-t13 returns)

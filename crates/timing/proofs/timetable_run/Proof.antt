@@ -16,44 +16,11 @@ abbrev μ-loop : tie.MeasureT-loop
 loop-holds : tie.Need-loop-holds Inv-loop μ-loop
 loop-holds c = tabling-start (c .args .t1) (c .args .t2)
 
-add-t11 : tie.Need-add-t11 Inv-loop μ-loop
-add-t11 c = search needs
-
-mul-t12 : tie.Need-mul-t12 Inv-loop μ-loop
-mul-t12 c = search needs
-
-array-read-t15 : tie.Need-array-read-t15 Inv-loop μ-loop
-array-read-t15 c = search needs
-
-mul-t16 : tie.Need-mul-t16 Inv-loop μ-loop
-mul-t16 c = search needs
-
-array-read-t19 : tie.Need-array-read-t19 Inv-loop μ-loop
-array-read-t19 c = search needs
-
 sub-t20 : tie.Need-sub-t20 Inv-loop μ-loop
 sub-t20 c = let s = c .before .before in rw add-one (s .pre .1 (c .before .loop .i) (c .loop-test .taken))
 
 cast-t21 : tie.Need-cast-t21 Inv-loop μ-loop
 cast-t21 c = omega (arith, c .before .before .pre .2 (c .before .loop .i + 1) (omega arith))
-
-mul-t22 : tie.Need-mul-t22 Inv-loop μ-loop
-mul-t22 c = search needs
-
-element-copy-out-t25 : tie.Need-element-copy-out-t25 Inv-loop μ-loop
-element-copy-out-t25 c = search needs
-
-mul-firings : tie.Need-mul-firings Inv-loop μ-loop
-mul-firings c = search needs
-
-array-set-from-firings : tie.Need-array-set-from-firings Inv-loop μ-loop
-array-set-from-firings c = search needs
-
-add-i : tie.Need-add-i Inv-loop μ-loop
-add-i c = search needs
-
-loop-less : tie.Need-loop-less Inv-loop μ-loop
-loop-less c = search needs
 
 loop-again : tie.Need-loop-again Inv-loop μ-loop
 loop-again c =
@@ -69,22 +36,6 @@ returns c =
 pub timetable-run-spec : {M : Type 1} → statement M
 timetable-run-spec =
     tie.close
-    (tie.spec
-    Inv-loop
-    μ-loop
-    loop-holds
-    add-t11
-    mul-t12
-    array-read-t15
-    mul-t16
-    array-read-t19
-    sub-t20
-    cast-t21
-    mul-t22
-    element-copy-out-t25
-    mul-firings
-    array-set-from-firings
-    add-i
-    loop-less
-    loop-again
+    (tie.spec Inv-loop μ-loop loop-holds (λ c. search needs) (λ c. search needs) (λ c. search needs) (λ c. search needs) (λ c. search needs) sub-t20
+    cast-t21 (λ c. search needs) (λ c. search needs) (λ c. search needs) (λ c. search needs) (λ c. search needs) (λ c. search needs) loop-again
     returns)

@@ -6,26 +6,8 @@ use Rattle.tpn.proofs.Results.{length-fits, length-told, code-fits, ref
 use Rattle.tpn.proofs.result_of.Statement.{statement}
 use Rattle.tpn.proofs.result_of.Tie as tie
 
-enum-known-r : tie.Need-enum-known-r
-enum-known-r c = search needs
-
 cast-result : tie.Need-cast-result
 cast-result c = record { sfits = length-fits (c .before .before .before .pre) (c .before .r .given .1) }
-
-enum-known-r-2 : tie.Need-enum-known-r-2
-enum-known-r-2 c = search needs
-
-number-of-requires : tie.Need-number-of-requires
-number-of-requires c κs = search needs
-
-cast-number : tie.Need-cast-number
-cast-number c = search needs
-
-position-of-requires : tie.Need-position-of-requires
-position-of-requires c κs = search needs
-
-mul-code : tie.Need-mul-code
-mul-code c = search needs
 
 cast-result-2 : tie.Need-cast-result-2
 cast-result-2 c =
@@ -51,16 +33,5 @@ returns-2 c =
 pub result-of-spec : {M : Type 1} → statement M
 result-of-spec =
     tie.close
-    (tie.spec
-    enum-known-r
-    cast-result
-    enum-known-r-2
-    number-of-requires
-    cast-number
-    position-of-requires
-    mul-code
-    add-code
-    cast-result-2
-    sub-result
-    returns
-    returns-2)
+    (tie.spec (λ c. search needs) cast-result (λ c. search needs) (λ c κs. search needs) (λ c. search needs) (λ c κs. search needs)
+    (λ c. search needs) add-code cast-result-2 sub-result returns returns-2)

@@ -6,17 +6,11 @@ use Rattle.tpn.proofs.Results.{reply-narrow, returned}
 use Rattle.tpn.proofs.tpn_process.Statement.{statement}
 use Rattle.tpn.proofs.tpn_process.Tie as tie
 
-process-cards-requires : tie.Need-process-cards-requires
-process-cards-requires c κs = search needs
-
 result-of-requires : tie.Need-result-of-requires
 result-of-requires c κs =
     let k = c .before .before in
     let s = k .before .before .before .before .args .input .now in
     reply-narrow (process-bounds s) (lit< tt) (lit< tt) (k .process-cards .ensures)
-
-same-length : tie.Need-same-length
-same-length c = search needs
 
 returns : tie.Need-returns
 returns c =
@@ -25,4 +19,6 @@ returns c =
     returned (process-bounds s) (lit< tt) (lit< tt) (k .process-cards .ensures) (c .result-of .ensures)
 
 pub tpn-process-spec : {M : Type 1} → statement M
-tpn-process-spec = tie.close (tie.spec process-cards-requires result-of-requires same-length returns)
+tpn-process-spec =
+    tie.close
+    (tie.spec (λ c κs. search needs) result-of-requires (λ c. search needs) returns)

@@ -6,17 +6,11 @@ use Rattle.tpn.proofs.Results.{reply-narrow, returned}
 use Rattle.tpn.proofs.tpn_replay.Statement.{statement}
 use Rattle.tpn.proofs.tpn_replay.Tie as tie
 
-replay-cards-requires : tie.Need-replay-cards-requires
-replay-cards-requires c κs = search needs
-
 result-of-requires : tie.Need-result-of-requires
 result-of-requires c κs =
     let k = c .before .before in
     let s = k .before .before .before .before .args .input .now in
     reply-narrow (replay-bounds s) (lit< tt) (lit< tt) (k .replay-cards .ensures)
-
-same-length : tie.Need-same-length
-same-length c = search needs
 
 returns : tie.Need-returns
 returns c =
@@ -25,4 +19,6 @@ returns c =
     returned (replay-bounds s) (lit< tt) (lit< tt) (k .replay-cards .ensures) (c .result-of .ensures)
 
 pub tpn-replay-spec : {M : Type 1} → statement M
-tpn-replay-spec = tie.close (tie.spec replay-cards-requires result-of-requires same-length returns)
+tpn-replay-spec =
+    tie.close
+    (tie.spec (λ c κs. search needs) result-of-requires (λ c. search needs) returns)

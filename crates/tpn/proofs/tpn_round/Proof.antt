@@ -6,17 +6,11 @@ use Rattle.tpn.proofs.Results.{reply-narrow, returned}
 use Rattle.tpn.proofs.tpn_round.Statement.{statement}
 use Rattle.tpn.proofs.tpn_round.Tie as tie
 
-round-cards-requires : tie.Need-round-cards-requires
-round-cards-requires c κs = search needs
-
 result-of-requires : tie.Need-result-of-requires
 result-of-requires c κs =
     let k = c .before .before in
     let s = k .before .before .before .before .args .input .now in
     reply-narrow (round-bounds s) (lit< tt) (lit< tt) (k .round-cards .ensures)
-
-same-length : tie.Need-same-length
-same-length c = search needs
 
 returns : tie.Need-returns
 returns c =
@@ -25,4 +19,6 @@ returns c =
     returned (round-bounds s) (lit< tt) (lit< tt) (k .round-cards .ensures) (c .result-of .ensures)
 
 pub tpn-round-spec : {M : Type 1} → statement M
-tpn-round-spec = tie.close (tie.spec round-cards-requires result-of-requires same-length returns)
+tpn-round-spec =
+    tie.close
+    (tie.spec (λ c κs. search needs) result-of-requires (λ c. search needs) returns)

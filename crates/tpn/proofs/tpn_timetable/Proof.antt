@@ -6,17 +6,11 @@ use Rattle.tpn.proofs.Results.{reply-narrow, returned}
 use Rattle.tpn.proofs.tpn_timetable.Statement.{statement}
 use Rattle.tpn.proofs.tpn_timetable.Tie as tie
 
-timetable-cards-requires : tie.Need-timetable-cards-requires
-timetable-cards-requires c κs = search needs
-
 result-of-requires : tie.Need-result-of-requires
 result-of-requires c κs =
     let k = c .before .before in
     let s = k .before .before .before .before .args .input .now in
     reply-narrow (timetable-bounds s) (lit< tt) (lit< tt) (k .timetable-cards .ensures)
-
-same-length : tie.Need-same-length
-same-length c = search needs
 
 returns : tie.Need-returns
 returns c =
@@ -25,4 +19,6 @@ returns c =
     returned (timetable-bounds s) (lit< tt) (lit< tt) (k .timetable-cards .ensures) (c .result-of .ensures)
 
 pub tpn-timetable-spec : {M : Type 1} → statement M
-tpn-timetable-spec = tie.close (tie.spec timetable-cards-requires result-of-requires same-length returns)
+tpn-timetable-spec =
+    tie.close
+    (tie.spec (λ c κs. search needs) result-of-requires (λ c. search needs) returns)
