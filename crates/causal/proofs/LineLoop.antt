@@ -15,9 +15,8 @@ use lib.Seq.{getD-set-same, getD-set-other}
 use Rattle.laws.specs.Sum.{le-or-lt}
 use Rattle.laws.specs.Splice.{Wrote}
 use Rattle.causal.specs.declared.Taking.{Taking}
+use Rattle.text.specs.Key.{bytes}
 use Rattle.text.specs.Decimal.{field}
-use Rattle.run.specs.Keys.{fireKey}
-use Rattle.causal.specs.Keys.{fromKey}
 use Rattle.causal.specs.Process.{Queues, Item, oldest, without, itemsFrom, itemsOf}
 use Rattle.causal.specs.Free.{tookFrom}
 use Rattle.causal.specs.Print.{itemText, joinedBy, listText, eventText}
@@ -173,9 +172,9 @@ module _ (counts₀ : List ℕ) (top places : ℕ) (weights : List ℕ) where
 
 -- ---- what the lines of a process take
 pub event-parts : (counts : List ℕ) (top : ℕ) (weights : List ℕ) (t places : ℕ) → eventText (eventIn counts top weights t places)
-    ≡ (fireKey ++ field t true) ++ (fromKey ++ listText (map itemText (itemsOf (takenIn counts top weights) places)))
+    ≡ (bytes "fire=" ++ field t true) ++ (bytes "from=" ++ listText (map itemText (itemsOf (takenIn counts top weights) places)))
 event-parts counts top weights t places =
-    append-assoc (fireKey ++ field t true) fromKey (listText (map itemText (itemsOf (takenIn counts top weights) places)))
+    append-assoc (bytes "fire=" ++ field t true) (bytes "from=") (listText (map itemText (itemsOf (takenIn counts top weights) places)))
 
 -- items depend on the queues of the places alone
 pub items-same : (f g : Queues) (places : ℕ) → ((p : ℕ) → p < places → f p ≡ g p) → itemsOf f places ≡ itemsOf g places

@@ -12,9 +12,9 @@ use borrow.Author.Tests.{eq-eqb, ne-eqb}
 use Rattle.laws.specs.Each.{Each}
 use Rattle.laws.specs.Splice.{Wrote, wrote-length}
 use Rattle.laws.specs.Room.{room-first, room-then, wrote-both, wrote-none}
+use Rattle.text.specs.Key.{bytes}
 use Rattle.text.specs.Decimal.{decimal}
 use Rattle.text.proofs.DecimalLaws.{length-decimal}
-use Rattle.causal.specs.Keys.{noneWord}
 use Rattle.causal.specs.Process.{Item}
 use Rattle.causal.specs.Print.{itemText, joinedBy, listText}
 use Rattle.causal.specs.Counts.{comma}
@@ -143,13 +143,13 @@ module _ {begin : ℕ} {out₀ : List ℕ} {at : ℕ} {texts left : List (List �
     listing-one w = listing-more (x ∷ []) more next (rw joined-one w)
 
 -- ---- a line: the key, the texts, and the end
-line-parts : (texts : List (List ℕ)) (none : Bool) → none ≡ noText texts → listText texts ≡ joinedBy true texts ++ (cond none noneWord [] ++ (10 ∷ []))
+line-parts : (texts : List (List ℕ)) (none : Bool) → none ≡ noText texts → listText texts ≡ joinedBy true texts ++ (cond none (bytes "none") [] ++ (10 ∷ []))
 unfolding listText joinedBy
 line-parts [] none e = rw e refl
 line-parts (x ∷ texts) none e = rw e refl
 
 abbrev pub endText : Bool → List ℕ
-endText none = cond none noneWord [] ++ (10 ∷ [])
+endText none = cond none (bytes "none") [] ++ (10 ∷ [])
 
 module _ (s : List ℕ) (at : ℕ) (key : List ℕ) (texts : List (List ℕ)) (long : Each Long texts) (room : at + length (key ++ listText texts) ≤ length s) where
   pub key-room : at + length key ≤ length s

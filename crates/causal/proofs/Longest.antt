@@ -16,18 +16,17 @@ use Rattle.laws.specs.Slots.{getD-first}
 use Rattle.laws.specs.Sum.{le-or-lt}
 use Rattle.reply.specs.declared.Checked.the-variants.{Passed}
 use Rattle.text.specs.Decimal.{decimal, field}
+use Rattle.text.specs.Key.{bytes}
 use Rattle.text.specs.Number.{separator}
 use Rattle.text.proofs.DecimalLaws.{digits-few}
 use Rattle.form.proofs.Found.{also-first, also-second}
 use Rattle.net.specs.declared.Net.{Net}
-use Rattle.run.specs.Keys.{fireKey}
 use Rattle.firing.specs.Semantics.{takes, gives, startMarking, after}
 use Rattle.firing.proofs.Clocks.{enabled-listed, bounded-true}
 use Rattle.timing.specs.Windows.{tokensJudged, tokens}
 use Rattle.timing.specs.Rounding.{markingAfter}
 use Rattle.timing.proofs.Meet.{tokens-passed}
 use Rattle.timing.proofs.Order.{tokens-prefix}
-use Rattle.causal.specs.Keys.{fromKey, leftKey, freeKey}
 use Rattle.causal.specs.Process.{Queues, Item, Event, oldest, without, startQueues, takenBy, queuesAfter, itemsFrom, itemsOf}
 use Rattle.causal.specs.Process.{eventsFrom, queuesBehind, events, left}
 use Rattle.causal.specs.Free.{tookFrom, freeFrom, free}
@@ -158,9 +157,9 @@ event-short e s =
     let line = listText (map itemText (e .from)) in
     omega (
       arith,
-      length-append (fireKey ++ number ++ fromKey) line,
-      length-append (fireKey ++ number) fromKey,
-      length-append fireKey number,
+      length-append (bytes "fire=" ++ number ++ bytes "from=") line,
+      length-append (bytes "fire=" ++ number) (bytes "from="),
+      length-append (bytes "fire=") number,
       length-append (decimal (e .fire)) (separator true ∷ []),
       digits-few 2 (e .fire) (lit≤ tt) (lit≤ tt) (s .0),
       items-short (e .from) (s .1),
@@ -276,10 +275,10 @@ module _ (net : Net) (order : List ℕ) (narrow : net .places ≤ 16) (listed : 
       let third = listText (map decimal (free es)) in
       omega (
         arith,
-        length-append (first ++ leftKey ++ second ++ freeKey) third,
-        length-append (first ++ leftKey ++ second) freeKey,
-        length-append (first ++ leftKey) second,
-        length-append first leftKey,
+        length-append (first ++ bytes "left=" ++ second ++ bytes "free=") third,
+        length-append (first ++ bytes "left=" ++ second) (bytes "free="),
+        length-append (first ++ bytes "left=") second,
+        length-append first (bytes "left="),
         events-short es events-small,
         items-short (left net order) left-small,
         free-short es (omega (arith, length-events net order)),

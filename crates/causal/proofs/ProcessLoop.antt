@@ -19,6 +19,7 @@ use Rattle.laws.specs.Room.{room-first, room-then, wrote-both}
 use Rattle.reply.specs.declared.Checked.the-variants.{Passed}
 use Rattle.form.specs.Form.{also}
 use Rattle.form.proofs.Found.{also-first, also-second}
+use Rattle.text.specs.Key.{bytes}
 use Rattle.text.specs.Decimal.{decimal}
 use Rattle.net.specs.declared.Transition.{Transition}
 use Rattle.net.specs.declared.Net.{Net}
@@ -32,7 +33,6 @@ use Rattle.firing.proofs.Clocks.{enabled-listed, bounded-true}
 use Rattle.timing.specs.Windows.{tokensJudged, tokens, orderOf}
 use Rattle.timing.proofs.Meet.{tokens-passed, length-order}
 use Rattle.causal.specs.declared.ItemsLine.{ItemsLine}
-use Rattle.causal.specs.Keys.{leftKey, freeKey}
 use Rattle.causal.specs.Process.{Queues, Event, oldest, itemsOf, startQueues, takenBy, queuesAfter, eventsFrom, queuesBehind, events, left}
 use Rattle.causal.specs.Free.{tookFrom, free}
 use Rattle.causal.specs.Print.{itemText, listText, eventText, eventsText, processText}
@@ -84,16 +84,16 @@ module _ (net : Net) (run : Run) where
 
   -- the text of the firings, and behind it the last two lines
   text-parts : processText net order ≡ joined (textAt firings) (run .count)
-      ++ ((leftKey ++ listText (map itemText (left net order))) ++ (freeKey ++ listText (map decimal (free firings))))
+      ++ ((bytes "left=" ++ listText (map itemText (left net order))) ++ (bytes "free=" ++ listText (map decimal (free firings))))
   unfolding processText
   text-parts =
-      grouped (eventsText firings) leftKey (listText (map itemText (left net order))) freeKey (listText (map decimal (free firings)))
+      grouped (eventsText firings) (bytes "left=") (listText (map itemText (left net order))) (bytes "free=") (listText (map decimal (free firings)))
       ∙ rw (joined-all firings (run .count) firings-length) refl
 
   pub firings-room : (s : List ℕ) (at : ℕ) → at + length (processText net order) ≤ length s → at + length (joined (textAt firings) (run .count)) ≤ length s
   firings-room s at room =
       room-first s at (joined (textAt firings) (run .count))
-      ((leftKey ++ listText (map itemText (left net order))) ++ (freeKey ++ listText (map decimal (free firings))))
+      ((bytes "left=" ++ listText (map itemText (left net order))) ++ (bytes "free=" ++ listText (map decimal (free firings))))
       (subst (λ (text : List ℕ). at + length text ≤ length s) text-parts room)
 
   pub record Processing (out₀ : List ℕ) (at : ℕ) (counts heads : List ℕ) (linked : List Bool) (out : List ℕ) (to i : ℕ) : Type 0 where
@@ -265,10 +265,10 @@ module _ (net : Net) (run : Run) where
 
     -- the last two lines
     abbrev pub leftLine : List ℕ
-    leftLine = leftKey ++ listText (map itemText (itemsOf (queueIn counts (run .count + 1)) (net .places)))
+    leftLine = bytes "left=" ++ listText (map itemText (itemsOf (queueIn counts (run .count + 1)) (net .places)))
 
     abbrev pub freeLine : List ℕ
-    freeLine = freeKey ++ listText (map decimal (unset linked 1 (run .count - 1)))
+    freeLine = bytes "free=" ++ listText (map decimal (unset linked 1 (run .count - 1)))
 
     whole : processText net order ≡ joined (textAt firings) (run .count) ++ (leftLine ++ freeLine)
     whole = text-parts ∙ rw (left-same, ← free-same) refl

@@ -1,6 +1,5 @@
 pub mod Claims
 pub mod Counts
 pub mod Free
-pub mod Keys
 pub mod Print
 pub mod Process

@@ -2,10 +2,9 @@
 use Prim.Native.Nat.{ℕ}
 use mathlib.Core.Bool.{Bool, true, false, cond}
 use mathlib.Core.List.{List, [], _∷_, _++_, map}
+use Rattle.text.specs.Key.{bytes}
 use Rattle.text.specs.Decimal.{decimal, field}
-use Rattle.run.specs.Keys.{fireKey}
 use Rattle.net.specs.declared.Net.{Net}
-use Rattle.causal.specs.Keys.{fromKey, leftKey, freeKey, noneWord}
 use Rattle.causal.specs.Process.{Item, Event, events, left}
 use Rattle.causal.specs.Free.{free}
 
@@ -20,12 +19,12 @@ joinedBy first (x ∷ texts) = cond first [] (44 ∷ []) ++ x ++ joinedBy false 
 
 -- a list and the line's end; "an empty list is `none`"
 unfoldable pub listText : List (List ℕ) → List ℕ
-listText [] = noneWord ++ (10 ∷ [])
+listText [] = bytes "none" ++ (10 ∷ [])
 listText (x ∷ texts) = joinedBy true (x ∷ texts) ++ (10 ∷ [])
 
 -- the lines of a firing
 abbrev pub eventText : Event → List ℕ
-eventText e = fireKey ++ field (e .fire) true ++ fromKey ++ listText (map itemText (e .from))
+eventText e = bytes "fire=" ++ field (e .fire) true ++ bytes "from=" ++ listText (map itemText (e .from))
 
 unfoldable pub eventsText : List Event → List ℕ
 eventsText [] = []
@@ -34,4 +33,4 @@ eventsText (e ∷ later) = eventText e ++ eventsText later
 -- the process of an order
 unfoldable pub processText : Net → List ℕ → List ℕ
 processText net order =
-    eventsText (events net order) ++ leftKey ++ listText (map itemText (left net order)) ++ freeKey ++ listText (map decimal (free (events net order)))
+    eventsText (events net order) ++ bytes "left=" ++ listText (map itemText (left net order)) ++ bytes "free=" ++ listText (map decimal (free (events net order)))

@@ -9,11 +9,11 @@ ghost use lib.Dec.{eqb};
 ghost use lib.ListN.{length, getD};
 ghost use Rattle.laws.specs.Splice.{Wrote};
 ghost use Rattle.reply.specs.declared.Checked.the-variants.{Passed};
+ghost use Rattle.text.specs.Key.{bytes};
 ghost use Rattle.text.specs.Decimal.{decimal};
 ghost use Rattle.firing.specs.Semantics.{startMarking};
 ghost use Rattle.firing.specs.Replay.{firingsOf};
 ghost use Rattle.timing.specs.Windows.{tokens, orderOf};
-ghost use Rattle.causal.specs.Keys.{leftKey, freeKey, noneWord};
 ghost use Rattle.causal.specs.Process.{oldest, itemsOf};
 ghost use Rattle.causal.specs.Print.{itemText, listText, eventText, processText};
 ghost use Rattle.causal.specs.Counts.{comma, queueIn, Emptied, AllEmptied, takenText, Took, takenIn, eventIn, TookAll, unset};
@@ -83,8 +83,8 @@ fn put_item(
 
 // The end of a line whose list starts at `begin`.
 fn end_list(out: &mut [u8], begin: usize, at: usize) -> usize
-    requires { ⌜ at + length (cond (eqb at begin) noneWord [] ++ (10 ∷ [])) ≤ length (now out) ⌝ }
-    ensures { λ r. ⌜ Wrote (now (out .entry)) at (cond (eqb at begin) noneWord [] ++ (10 ∷ [])) r (now (out .exit)) ⌝ }
+    requires { ⌜ at + length (cond (eqb at begin) (bytes "none") [] ++ (10 ∷ [])) ≤ length (now out) ⌝ }
+    ensures { λ r. ⌜ Wrote (now (out .entry)) at (cond (eqb at begin) (bytes "none") [] ++ (10 ∷ [])) r (now (out .exit)) ⌝ }
 {
     if at == begin {
         text::put_bytes(&mut *out, at, b"none\n")
@@ -189,8 +189,8 @@ fn give(counts: &mut [u32], weights: &[u32], places: usize, producer: usize)
 
 // The line `free`: each i from 1 whose next firing took nothing of it. `linked` tells of firing i + 1 at i.
 fn put_free(out: &mut [u8], at: usize, linked: &[bool], count: usize) -> usize
-    requires { ⌜ (count ≤ 64) × (count ≤ length (now linked)) × (at + length (freeKey ++ listText (map decimal (unset (now linked) 1 (count - 1)))) ≤ length (now out)) ⌝ }
-    ensures { λ r. ⌜ Wrote (now (out .entry)) at (freeKey ++ listText (map decimal (unset (now (linked .entry)) 1 (count - 1)))) r (now (out .exit)) ⌝ }
+    requires { ⌜ (count ≤ 64) × (count ≤ length (now linked)) × (at + length (bytes "free=" ++ listText (map decimal (unset (now linked) 1 (count - 1)))) ≤ length (now out)) ⌝ }
+    ensures { λ r. ⌜ Wrote (now (out .entry)) at (bytes "free=" ++ listText (map decimal (unset (now (linked .entry)) 1 (count - 1)))) r (now (out .exit)) ⌝ }
 {
     let begin = text::put_bytes(&mut *out, at, b"free=");
     let mut to = begin;
@@ -245,8 +245,8 @@ fn put_left(
 ) -> usize
     requires { ⌜ (places ≤ 16) × (0 < top) × (top ≤ 65) × (length (now counts) ≡ 1040) × (length (now heads) ≡ 16) × AllEmptied (now counts) (now heads) top places ⌝ }
     requires { ⌜ ((p : ℕ) → p < places → oldest 255 (queueIn (now counts) top p) ≡ queueIn (now counts) top p) ⌝ }
-    requires { ⌜ at + length (leftKey ++ listText (map itemText (itemsOf (queueIn (now counts) top) places))) ≤ length (now out) ⌝ }
-    ensures { λ r. ⌜ Wrote (now (out .entry)) at (leftKey ++ listText (map itemText (itemsOf (queueIn (now (counts .entry)) top) places))) r (now (out .exit)) ⌝ }
+    requires { ⌜ at + length (bytes "left=" ++ listText (map itemText (itemsOf (queueIn (now counts) top) places))) ≤ length (now out) ⌝ }
+    ensures { λ r. ⌜ Wrote (now (out .entry)) at (bytes "left=" ++ listText (map itemText (itemsOf (queueIn (now (counts .entry)) top) places))) r (now (out .exit)) ⌝ }
 {
     let all = [255u32; 16];
     let line = put_items_line(

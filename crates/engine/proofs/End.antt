@@ -8,6 +8,7 @@ use mathlib.Core.List.{List, _++_}
 use lib.ListN.{length, getD, length-append}
 use Rattle.laws.specs.Joined.{joined}
 use Rattle.laws.specs.Slots.{firstOf, getD-first, length-first}
+use Rattle.text.specs.Key.{bytes}
 use Rattle.text.specs.Decimal.{field}
 use Rattle.text.proofs.DecimalLaws.{field-short}
 use Rattle.form.specs.Line.{itemsText}
@@ -17,16 +18,15 @@ use Rattle.firing.specs.declared.State.{State}
 use Rattle.firing.specs.Semantics.{enabled}
 use Rattle.firing.specs.Replay.{clockOf}
 use Rattle.firing.specs.Rows.{standing}
-use Rattle.engine.specs.Keys.{endKey, clockKey, offLine}
 use Rattle.engine.specs.Replay.{clockText, clocksText, endText}
 
 -- what stands behind the key of a clock
 abbrev pub clockValue : Bool → ℕ → List ℕ
-clockValue on clock = cond on (field clock true) offLine
+clockValue on clock = cond on (field clock true) (bytes "off\n")
 
 -- the line of clock u, from the arrays
 abbrev pub clockLine : List Bool → List ℕ → ℕ → ℕ → List ℕ
-clockLine flags since now u = clockKey ++ clockValue (getD flags u false) (now - getD since u 0)
+clockLine flags since now u = bytes "clock=" ++ clockValue (getD flags u false) (now - getD since u 0)
 
 -- a state of a net without the slots past the counts
 abbrev pub counted : Net → State → State
@@ -65,7 +65,7 @@ end-fits net st few slots =
     let clocks = clocksText net (counted net st) (net .transitions) in
     omega (
       arith,
-      length-append (endKey ++ itemsText tokens) clocks,
+      length-append (bytes "end=" ++ itemsText tokens) clocks,
       length-items tokens,
       length-first (net .places) 0 (st .marking),
       clocks-short net (counted net st) (net .transitions),

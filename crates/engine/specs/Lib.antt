@@ -1,5 +1,4 @@
 pub mod Claims
-pub mod Keys
 pub mod Operation
 pub mod Process
 pub mod Replay

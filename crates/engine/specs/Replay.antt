@@ -6,6 +6,7 @@ use mathlib.Core.List.{List, [], _++_}
 use Rattle.reply.specs.declared.Checked.{Checked}
 use Rattle.reply.specs.declared.Checked.the-variants.{Passed, Refused}
 use Rattle.reply.specs.Respond.{Outcome, answer, refusal}
+use Rattle.text.specs.Key.{bytes}
 use Rattle.text.specs.Decimal.{field}
 use Rattle.form.specs.Line.{itemsText}
 use Rattle.net.specs.declared.Net.{Net}
@@ -14,12 +15,11 @@ use Rattle.firing.specs.declared.State.{State}
 use Rattle.firing.specs.Semantics.{enabled}
 use Rattle.firing.specs.Replay.{ruleOf, clockOf, replay}
 use Rattle.cards.specs.Cards.{runChecked, runCards}
-use Rattle.engine.specs.Keys.{endKey, clockKey, offLine}
 use Rattle.engine.specs.Operation.{onceChecked, onceRead}
 
 -- the line of one clock
 abbrev pub clockText : Net → State → ℕ → List ℕ
-clockText net st u = clockKey ++ cond (enabled net (st .marking) u) (field (clockOf st u) true) offLine
+clockText net st u = bytes "clock=" ++ cond (enabled net (st .marking) u) (field (clockOf st u) true) (bytes "off\n")
 
 -- the lines of the first n clocks
 unfoldable pub clocksText : Net → State → ℕ → List ℕ
@@ -27,7 +27,7 @@ clocksText net st zero = []
 clocksText net st (suc u) = clocksText net st u ++ clockText net st u
 
 abbrev pub endText : Net → State → List ℕ
-endText net st = endKey ++ itemsText (st .marking) ++ clocksText net st (net .transitions)
+endText net st = bytes "end=" ++ itemsText (st .marking) ++ clocksText net st (net .transitions)
 
 -- what a replay comes to: its end, or the first refusal
 abbrev pub ended : Net → Checked → State → Outcome

@@ -15,11 +15,11 @@ ghost use lib.ListN.{length, getD};
 ghost use Rattle.laws.specs.Splice.{Wrote};
 ghost use Rattle.reply.specs.declared.Checked.the-variants.{Passed};
 ghost use Rattle.reply.specs.Respond.{answer, Responded};
+ghost use Rattle.text.specs.Key.{bytes};
 ghost use Rattle.text.specs.Decimal.{field};
 ghost use Rattle.run.specs.Run.{runCard};
 ghost use Rattle.firing.specs.Rows.{standing};
 ghost use Rattle.cards.specs.Cards.{runChecked, orderChecked};
-ghost use Rattle.engine.specs.Keys.{clockKey, offLine};
 ghost use Rattle.engine.specs.Replay.{clocksText, endText, replayOf, replayValues, replayCards};
 ghost use Rattle.engine.specs.Round.{roundOf, roundValues, roundCards};
 ghost use Rattle.engine.specs.Process.{processOf, processValues, processCards};
@@ -27,8 +27,8 @@ ghost use Rattle.engine.specs.Timetable.{timetableOf, timetableValues, t
 
 // The line of a clock written to a position; the position behind it.
 fn put_clock(out: &mut [u8], at: usize, on: bool, clock: u64) -> usize
-    requires { ⌜ at + length (clockKey ++ cond on (field clock true) offLine) ≤ length (now out) ⌝ }
-    ensures { λ r. ⌜ Wrote (now (out .entry)) at (clockKey ++ cond on (field clock true) offLine) r (now (out .exit)) ⌝ }
+    requires { ⌜ at + length (bytes "clock=" ++ cond on (field clock true) (bytes "off\n")) ≤ length (now out) ⌝ }
+    ensures { λ r. ⌜ Wrote (now (out .entry)) at (bytes "clock=" ++ cond on (field clock true) (bytes "off\n")) r (now (out .exit)) ⌝ }
 {
     let to = text::put_bytes(&mut *out, at, b"clock=");
     if on {

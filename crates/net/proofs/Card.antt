@@ -16,7 +16,7 @@ use Rattle.reply.specs.declared.Checked.{Checked}
 use Rattle.reply.specs.declared.Checked.the-variants.{Passed, Refused}
 use Rattle.reply.specs.Respond.{answer}
 use Rattle.text.specs.declared.NumberRead.the-variants.{Value, NoNumber}
-use Rattle.text.specs.Key.{beginsWith}
+use Rattle.text.specs.Key.{bytes, beginsWith}
 use Rattle.text.specs.Number.{digitsOf, fieldAt}
 use Rattle.text.specs.Decimal.{field}
 use Rattle.text.proofs.KeyLaws.{begins-text, begins-split, begins-take}
@@ -32,26 +32,25 @@ use Rattle.net.specs.declared.Latest.{Latest}
 use Rattle.net.specs.declared.Latest.the-variants.{Unbounded, Ticks}
 use Rattle.net.specs.declared.Transition.{Transition}
 use Rattle.net.specs.declared.Net.{Net}
-use Rattle.net.specs.Keys.{placesKey, transitionsKey, startKey, earliestKey, latestKey, takeKey, giveKey, infLine}
 use Rattle.net.specs.Net.{latestChecked, latest, weights, toTransition, fromTransition, transition, noTransition, starts, table, body, toNet, fromNet, netCard}
 use Rattle.net.specs.Code.{writtenIf, netText}
 
 -- where the word stands there is no number
-word-no-number : (s : List ℕ) (at : ℕ) → beginsWith infLine (drop at s) ≡ true → fieldAt s at true ≡ NoNumber
+word-no-number : (s : List ℕ) (at : ℕ) → beginsWith (bytes "inf\n") (drop at s) ≡ true → fieldAt s at true ≡ NoNumber
 unfolding digitsOf fieldAt
-word-no-number s at t = rw (begins-split infLine s at t .0) refl
+word-no-number s at t = rw (begins-split (bytes "inf\n") s at t .0) refl
 
-number-no-word : (n at next : ℕ) (s : List ℕ) → fieldAt s at true ≡ Value n next → beginsWith infLine (drop at s) ≡ false
-number-no-word n at next s e = go (beginsWith infLine (drop at s)) refl
+number-no-word : (n at next : ℕ) (s : List ℕ) → fieldAt s at true ≡ Value n next → beginsWith (bytes "inf\n") (drop at s) ≡ false
+number-no-word n at next s e = go (beginsWith (bytes "inf\n") (drop at s)) refl
   where
-    go : (t : Bool) → beginsWith infLine (drop at s) ≡ t → beginsWith infLine (drop at s) ≡ false
+    go : (t : Bool) → beginsWith (bytes "inf\n") (drop at s) ≡ t → beginsWith (bytes "inf\n") (drop at s) ≡ false
     go true t = let q = word-no-number s at t in let z : _≡_ {A = ℕ} 0 1 = cc in absurd (omega arith)
     go false t = t
 
 module _ (earliest : ℕ) where
   latest-back : (l : Latest) (s rest : List ℕ) (at line : ℕ) → latestChecked earliest l line ≡ Passed → drop at s ≡ latest earliest .text l ++ rest
       → latest earliest .read s at line ≡ found l (at + length (latest earliest .text l))
-  latest-back Unbounded s rest at line p e = rw (ap (beginsWith infLine) e ∙ begins-text infLine rest) refl
+  latest-back Unbounded s rest at line p e = rw (ap (beginsWith (bytes "inf\n")) e ∙ begins-text (bytes "inf\n") rest) refl
   latest-back (Ticks n) s rest at line p e =
       let small = ranged-small 0 1000 (lit< tt) n line (also-first (ranged 0 1000 n line) (cond (ltb n earliest) (Refused (LatestBelowEarliest line)) Passed) p) in
       let q = field-text n at true s rest small e in
@@ -67,10 +66,10 @@ module _ (earliest : ℕ) where
       (record { bytes = w .text; end = w .end; passed = judged-passed c _ (u .place) (u .then); cleaned = refl })
 
   latest-was : (l : Latest) (s : List ℕ) (at next line : ℕ) → latest earliest .read s at line ≡ found l next → WasRead (latest earliest) l s at next line
-  latest-was l s at next line = go (beginsWith infLine (drop at s)) refl
+  latest-was l s at next line = go (beginsWith (bytes "inf\n") (drop at s)) refl
     where
-      go : (t : Bool) → beginsWith infLine (drop at s) ≡ t
-          → cond t (found Unbounded (at + length infLine)) (andThen (formed line (fieldAt s at true)) (λ n to. judged (latestChecked earliest (Ticks n) line) (Ticks n) to)) ≡ found l next
+      go : (t : Bool) → beginsWith (bytes "inf\n") (drop at s) ≡ t
+          → cond t (found Unbounded (at + length (bytes "inf\n"))) (andThen (formed line (fieldAt s at true)) (λ n to. judged (latestChecked earliest (Ticks n) line) (Ticks n) to)) ≡ found l next
           → WasRead (latest earliest) l s at next line
       go true t e = was-same (latest earliest) e (word-was (latest earliest) Unbounded s at line refl refl t)
       go false t e = ticks-was l s at next line e
@@ -82,9 +81,9 @@ module _ (earliest : ℕ) where
   latest-settled = record { same-text = λ l. refl; same-lines = λ l. refl; same-check = λ l line. refl }
 
   latest-near : (l : Latest) (s : List ℕ) (at next line : ℕ) → latest earliest .read s at line ≡ found l next → next ≤ at + 10
-  latest-near l s at next line = go (beginsWith infLine (drop at s))
+  latest-near l s at next line = go (beginsWith (bytes "inf\n") (drop at s))
     where
-      go : (t : Bool) → cond t (found Unbounded (at + length infLine)) (andThen (formed line (fieldAt s at true)) (λ n to. judged (latestChecked earliest (Ticks n) line) (Ticks n) to)) ≡ found l next
+      go : (t : Bool) → cond t (found Unbounded (at + length (bytes "inf\n"))) (andThen (formed line (fieldAt s at true)) (λ n to. judged (latestChecked earliest (Ticks n) line) (Ticks n) to)) ≡ found l next
           → next ≤ at + 10
       go true e = omega (arith, found-place e)
       go false e =
@@ -96,7 +95,7 @@ module _ (earliest : ℕ) where
   latest-reaches =
       record {
         near = latest-near;
-        prefix = λ s k at line h. rw (begins-take infLine s k at (omega arith), field-take k at true s h) refl;
+        prefix = λ s k at line h. rw (begins-take (bytes "inf\n") s k at (omega arith), field-take k at true s h) refl;
       }
 
 -- the lines of a transition
@@ -105,74 +104,74 @@ module _ (places : ℕ) where
   weights-inverse =
       let i = items-inverse places 16 0 255 (lit< tt) in
       chain-inverse _ _ (λ l. refl)
-      (keyed-inverse takeKey _ i)
-      (keyed-settled takeKey _ (items-settled places 16 0 255))
-      (λ l line p. keyed-inverse giveKey _ i)
+      (keyed-inverse (bytes "take=") _ i)
+      (keyed-settled (bytes "take=") _ (items-settled places 16 0 255))
+      (λ l line p. keyed-inverse (bytes "give=") _ i)
 
   weights-settled : Settled (weights places)
   weights-settled =
       let w = items-settled places 16 0 255 in
       chain-settled _ _ (λ l. refl)
-      (keyed-settled takeKey _ w)
-      (λ l. keyed-settled giveKey _ w)
+      (keyed-settled (bytes "take=") _ w)
+      (λ l. keyed-settled (bytes "give=") _ w)
 
   weights-reaches : places ≤ 16 → Reaches (weights places) 330
   weights-reaches h =
       let w : Reaches (items places 16 0 255) 160 = reaches-more (omega arith) (items-reaches places 16 0 255) in
       chain-reaches _ _
-      (keyed-reaches takeKey _ w)
-      (λ l s at next line e. keyed-reaches giveKey _ w)
+      (keyed-reaches (bytes "take=") _ w)
+      (λ l s at next line e. keyed-reaches (bytes "give=") _ w)
 
-  interval-inverse : (earliest : ℕ) → Inverse (chain (keyed latestKey (latest earliest)) (λ _. weights places))
+  interval-inverse : (earliest : ℕ) → Inverse (chain (keyed (bytes "latest=") (latest earliest)) (λ _. weights places))
   interval-inverse earliest =
       chain-inverse _ _ (λ l. refl)
-      (keyed-inverse latestKey _ (latest-inverse earliest))
-      (keyed-settled latestKey _ (latest-settled earliest))
+      (keyed-inverse (bytes "latest=") _ (latest-inverse earliest))
+      (keyed-settled (bytes "latest=") _ (latest-settled earliest))
       (λ l line p. weights-inverse)
 
-  interval-settled : (earliest : ℕ) → Settled (chain (keyed latestKey (latest earliest)) (λ _. weights places))
+  interval-settled : (earliest : ℕ) → Settled (chain (keyed (bytes "latest=") (latest earliest)) (λ _. weights places))
   interval-settled earliest =
       chain-settled _ _ (λ l. refl)
-      (keyed-settled latestKey _ (latest-settled earliest))
+      (keyed-settled (bytes "latest=") _ (latest-settled earliest))
       (λ l. weights-settled)
 
-  interval-reaches : places ≤ 16 → (earliest : ℕ) → Reaches (chain (keyed latestKey (latest earliest)) (λ _. weights places)) 347
+  interval-reaches : places ≤ 16 → (earliest : ℕ) → Reaches (chain (keyed (bytes "latest=") (latest earliest)) (λ _. weights places)) 347
   interval-reaches h earliest =
       chain-reaches _ _
-      (keyed-reaches latestKey _ (latest-reaches earliest))
+      (keyed-reaches (bytes "latest=") _ (latest-reaches earliest))
       (λ l s at next line e. weights-reaches h)
 
   pub transition-inverse : Inverse (transition places)
   transition-inverse =
       held-inverse toTransition fromTransition (λ v. refl)
       (chain-inverse _ _ (λ n. refl)
-      (ranged-inverse earliestKey 0 1000 (lit< tt))
-      (ranged-settled earliestKey 0 1000)
+      (ranged-inverse (bytes "earliest=") 0 1000 (lit< tt))
+      (ranged-settled (bytes "earliest=") 0 1000)
       (λ n line p. interval-inverse n))
 
   pub transition-settled : Settled (transition places)
   transition-settled =
       held-settled toTransition fromTransition (λ v. refl)
       (chain-settled _ _ (λ n. refl)
-      (ranged-settled earliestKey 0 1000)
+      (ranged-settled (bytes "earliest=") 0 1000)
       interval-settled)
 
   pub transition-reaches : places ≤ 16 → Reaches (transition places) 366
   transition-reaches h =
       held-reaches toTransition fromTransition
       (chain-reaches _ _
-      (number-line-reaches earliestKey (ranged 0 1000))
+      (number-line-reaches (bytes "earliest=") (ranged 0 1000))
       (λ n s at next line e. interval-reaches h n))
 
 -- the lines behind the counts
 module _ (places transitions : ℕ) where
   starts-settled : Settled (starts places)
-  starts-settled = times-settled places 16 0 _ (ranged-settled startKey 0 255)
+  starts-settled = times-settled places 16 0 _ (ranged-settled (bytes "start=") 0 255)
 
   body-inverse : Inverse (body places transitions)
   body-inverse =
       chain-inverse _ _ (λ l. refl)
-      (times-inverse places 16 0 _ (ranged-inverse startKey 0 255 (lit< tt)) (ranged-settled startKey 0 255))
+      (times-inverse places 16 0 _ (ranged-inverse (bytes "start=") 0 255 (lit< tt)) (ranged-settled (bytes "start=") 0 255))
       starts-settled
       (λ l line p. times-inverse transitions 32 noTransition _ (transition-inverse places) (transition-settled places))
 
@@ -181,36 +180,36 @@ module _ (places transitions : ℕ) where
 
   body-reaches : places ≤ 16 → transitions ≤ 32 → Reaches (body places transitions) 11968
   body-reaches h h′ =
-      let w : Reaches (starts places) 256 = reaches-more (omega arith) (times-reaches places 16 0 _ (number-line-reaches startKey (ranged 0 255))) in
+      let w : Reaches (starts places) 256 = reaches-more (omega arith) (times-reaches places 16 0 _ (number-line-reaches (bytes "start=") (ranged 0 255))) in
       let w′ : Reaches (table places transitions) 11712 = reaches-more (omega arith) (times-reaches transitions 32 noTransition _ (transition-reaches places h)) in
       chain-reaches _ _ w (λ l s at next line e. w′)
 
-counted-inverse : (places : ℕ) → Inverse (chain (keyed transitionsKey (number (ranged 1 32))) (λ transitions. body places transitions))
+counted-inverse : (places : ℕ) → Inverse (chain (keyed (bytes "transitions=") (number (ranged 1 32))) (λ transitions. body places transitions))
 counted-inverse places =
     chain-inverse _ _ (λ n. refl)
-    (ranged-inverse transitionsKey 1 32 (lit< tt))
-    (ranged-settled transitionsKey 1 32)
+    (ranged-inverse (bytes "transitions=") 1 32 (lit< tt))
+    (ranged-settled (bytes "transitions=") 1 32)
     (λ n line p. body-inverse places n)
 
-counted-settled : (places : ℕ) → Settled (chain (keyed transitionsKey (number (ranged 1 32))) (λ transitions. body places transitions))
-counted-settled places = chain-settled _ _ (λ n. refl) (ranged-settled transitionsKey 1 32) (λ n. body-settled places n)
+counted-settled : (places : ℕ) → Settled (chain (keyed (bytes "transitions=") (number (ranged 1 32))) (λ transitions. body places transitions))
+counted-settled places = chain-settled _ _ (λ n. refl) (ranged-settled (bytes "transitions=") 1 32) (λ n. body-settled places n)
 
-counted-reaches : (places : ℕ) → places ≤ 16 → Reaches (chain (keyed transitionsKey (number (ranged 1 32))) (λ transitions. body places transitions)) 11990
+counted-reaches : (places : ℕ) → places ≤ 16 → Reaches (chain (keyed (bytes "transitions=") (number (ranged 1 32))) (λ transitions. body places transitions)) 11990
 counted-reaches places h =
     chain-reaches _ _
-    (number-line-reaches transitionsKey (ranged 1 32))
-    (λ n s at next line e. body-reaches places n h (ranged-read transitionsKey 1 32 (lit< tt) n s at next line e .1))
+    (number-line-reaches (bytes "transitions=") (ranged 1 32))
+    (λ n s at next line e. body-reaches places n h (ranged-read (bytes "transitions=") 1 32 (lit< tt) n s at next line e .1))
 
 pub net-inverse : Inverse netCard
 net-inverse =
     held-inverse toNet fromNet (λ v. refl)
     (chain-inverse _ _ (λ n. refl)
-    (ranged-inverse placesKey 1 16 (lit< tt))
-    (ranged-settled placesKey 1 16)
+    (ranged-inverse (bytes "places=") 1 16 (lit< tt))
+    (ranged-settled (bytes "places=") 1 16)
     (λ n line p. counted-inverse n))
 
 pub net-settled : Settled netCard
-net-settled = held-settled toNet fromNet (λ v. refl) (chain-settled _ _ (λ n. refl) (ranged-settled placesKey 1 16) counted-settled)
+net-settled = held-settled toNet fromNet (λ v. refl) (chain-settled _ _ (λ n. refl) (ranged-settled (bytes "places=") 1 16) counted-settled)
 
 -- as many bytes as a reading of a net card looks at
 abbrev pub netReach : ℕ
@@ -220,8 +219,8 @@ pub net-reaches : Reaches netCard netReach
 net-reaches =
     held-reaches toNet fromNet
     (chain-reaches _ _
-    (number-line-reaches placesKey (ranged 1 16))
-    (λ n s at next line e. counted-reaches n (ranged-read placesKey 1 16 (lit< tt) n s at next line e .1)))
+    (number-line-reaches (bytes "places=") (ranged 1 16))
+    (λ n s at next line e. counted-reaches n (ranged-read (bytes "places=") 1 16 (lit< tt) n s at next line e .1)))
 
 -- what was written is read back, up to the slots past the counts, and reading stops at the rest
 pub net-read-back : (n : Net) (rest : List ℕ) → netCard .check n 1 ≡ Passed
@@ -259,7 +258,7 @@ net-start n e p h =
     let listed = firstOf (n .places) 0 (n .start) in
     let behind = also-second (ranged 1 32 (n .transitions) 2) _ (also-second (ranged 1 16 (n .places) 1) _ e) in
     let each =
-    checks-each (keyed startKey (number (ranged 0 255))) (λ (x : ℕ). x ≤ 255) (λ x line q. ranged-within 0 255 x line q .1) listed _
+    checks-each (keyed (bytes "start=") (number (ranged 0 255))) (λ (x : ℕ). x ≤ 255) (λ x line q. ranged-within 0 255 x line q .1) listed _
     (also-first (starts (n .places) .check (n .start) 3) _ behind) in
     rw getD-first at (each-at (λ (x : ℕ). x ≤ 255) 0 listed each p (omega (arith, length-first (n .places) 0 (n .start))))
 

@@ -10,7 +10,7 @@ use Rattle.reply.specs.declared.Refusal.{Refusal}
 use Rattle.reply.specs.declared.Refusal.the-variants.{OutOfRange, LatestBelowEarliest}
 use Rattle.reply.specs.declared.Checked.the-variants.{Passed, Refused}
 use Rattle.reply.specs.Refusal.{positionOf}
-use Rattle.text.specs.Key.{beginsWith}
+use Rattle.text.specs.Key.{bytes, beginsWith}
 use Rattle.text.specs.Number.{fieldAt}
 use Rattle.form.specs.Form.{found, refused, andThen, judged, also, keyed, chain}
 use Rattle.form.specs.Line.{formed, ranged, number}
@@ -19,7 +19,6 @@ use Rattle.form.proofs.Found.{not-both}
 use Rattle.form.proofs.Lines.{ranged-read}
 use Rattle.form.proofs.Places.{OwnLine, placed-more, line-placed, field-own, items-placed, keyed-placed, ranged-placed, chain-placed, held-placed, times-placed}
 use Rattle.net.specs.declared.Latest.the-variants.{Unbounded, Ticks}
-use Rattle.net.specs.Keys.{placesKey, transitionsKey, startKey, earliestKey, latestKey, takeKey, giveKey, infLine}
 use Rattle.net.specs.Net.{latestChecked, latest, weights, toTransition, fromTransition, transition, noTransition, starts, table, body, toNet, fromNet, netCard}
 
 module _ (earliest : ℕ) where
@@ -34,10 +33,10 @@ module _ (earliest : ℕ) where
       go false b e = let same : r ≡ OutOfRange line = cc in ap positionOf same
 
   latest-placed : Placed (latest earliest) 1
-  latest-placed = line-placed (λ r s at line. go r s at line (beginsWith infLine (drop at s))) (λ l. refl)
+  latest-placed = line-placed (λ r s at line. go r s at line (beginsWith (bytes "inf\n") (drop at s))) (λ l. refl)
     where
       go : (r : Refusal) (s : List ℕ) (at line : ℕ) (t : Bool)
-          → cond t (found Unbounded (at + length infLine))
+          → cond t (found Unbounded (at + length (bytes "inf\n")))
           (andThen (formed line (fieldAt s at true)) (λ n to. judged (latestChecked earliest (Ticks n) line) (Ticks n) to)) ≡ refused r → positionOf r ≡ line
       go r s at line true e = absurd (not-both (sym e))
       go r s at line false e = field-own (latestChecked earliest) Ticks latest-own line (fieldAt s at true) e
@@ -46,27 +45,27 @@ module _ (places : ℕ) where
   weights-placed : Placed (weights places) 2
   weights-placed =
       let w = items-placed places 16 0 255 in
-      chain-placed (keyed-placed takeKey (omega arith) w) (λ l s at next line e. keyed-placed giveKey (omega arith) w)
+      chain-placed (keyed-placed (bytes "take=") (omega arith) w) (λ l s at next line e. keyed-placed (bytes "give=") (omega arith) w)
 
   transition-placed : Placed (transition places) 4
   transition-placed =
       held-placed toTransition fromTransition (λ v. refl)
-      (chain-placed (ranged-placed earliestKey 0 1000)
-      (λ n s at next line e. chain-placed (keyed-placed latestKey (omega arith) (latest-placed n)) (λ l s′ at′ next′ line′ e′. weights-placed)))
+      (chain-placed (ranged-placed (bytes "earliest=") 0 1000)
+      (λ n s at next line e. chain-placed (keyed-placed (bytes "latest=") (omega arith) (latest-placed n)) (λ l s′ at′ next′ line′ e′. weights-placed)))
 
   body-placed : (transitions : ℕ) → places ≤ 16 → transitions ≤ 32 → Placed (body places transitions) 144
   body-placed transitions h h′ =
-      let w : Placed (starts places) 16 = placed-more (omega arith) (times-placed (ranged-placed startKey 0 255) places 16 0) in
+      let w : Placed (starts places) 16 = placed-more (omega arith) (times-placed (ranged-placed (bytes "start=") 0 255) places 16 0) in
       let w′ : Placed (table places transitions) 128 = placed-more (omega arith) (times-placed transition-placed transitions 32 noTransition) in
       chain-placed w (λ l s at next line e. w′)
 
-  counted-placed : places ≤ 16 → Placed (chain (keyed transitionsKey (number (ranged 1 32))) (λ transitions. body places transitions)) 145
+  counted-placed : places ≤ 16 → Placed (chain (keyed (bytes "transitions=") (number (ranged 1 32))) (λ transitions. body places transitions)) 145
   counted-placed h =
-      chain-placed (ranged-placed transitionsKey 1 32)
-      (λ n s at next line e. body-placed n h (ranged-read transitionsKey 1 32 (lit< tt) n s at next line e .1))
+      chain-placed (ranged-placed (bytes "transitions=") 1 32)
+      (λ n s at next line e. body-placed n h (ranged-read (bytes "transitions=") 1 32 (lit< tt) n s at next line e .1))
 
 pub net-placed : Placed netCard 146
 net-placed =
     held-placed toNet fromNet (λ v. refl)
-    (chain-placed (ranged-placed placesKey 1 16)
-    (λ n s at next line e. counted-placed n (ranged-read placesKey 1 16 (lit< tt) n s at next line e .1)))
+    (chain-placed (ranged-placed (bytes "places=") 1 16)
+    (λ n s at next line e. counted-placed n (ranged-read (bytes "places=") 1 16 (lit< tt) n s at next line e .1)))

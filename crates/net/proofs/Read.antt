@@ -12,7 +12,7 @@ use Rattle.reply.specs.declared.Refusal.{Refusal}
 use Rattle.reply.specs.declared.Refusal.the-variants.{Malformed}
 use Rattle.reply.specs.declared.Checked.the-variants as checked
 use Rattle.text.specs.declared.NumberRead.the-variants as number-read
-use Rattle.text.specs.Key.{beginsWith}
+use Rattle.text.specs.Key.{bytes, beginsWith}
 use Rattle.text.specs.Number.{fieldAt}
 use Rattle.form.specs.declared.NumberLine.the-variants as number-line
 use Rattle.form.specs.declared.LineRead.the-variants.{Next, Stopped}
@@ -30,7 +30,6 @@ use Rattle.net.specs.declared.Transition.{Transition}
 use Rattle.net.specs.declared.TransitionRead.{TransitionRead}
 use Rattle.net.specs.declared.TableRead.{TableRead}
 use Rattle.net.specs.declared.NetRead.{NetRead}
-use Rattle.net.specs.Keys.{placesKey, transitionsKey, startKey, earliestKey, latestKey, takeKey, giveKey, infLine}
 use Rattle.net.specs.Net.{latestChecked, latest, weights, toTransition, transition, noTransition, starts, table, body, toNet, netCard}
 use Rattle.net.specs.Code.{latestLine, transitionRead, weighted, tableRead, noNet, netRead, counted, remainderStart}
 use Rattle.net.proofs.Card.{net-inverse}
@@ -46,10 +45,10 @@ latest-refused (refused r) e = cc
 
 -- ---- an upper bound
 module _ (earliest : ℕ) (s : List ℕ) (at line : ℕ) where
-  pub word-read : beginsWith infLine (drop at s) ≡ true → Value Unbounded (at + 4) ≡ latestLine (latest earliest .read s at line)
+  pub word-read : beginsWith (bytes "inf\n") (drop at s) ≡ true → Value Unbounded (at + 4) ≡ latestLine (latest earliest .read s at line)
   word-read e = rw e
 
-  module _ (none : beginsWith infLine (drop at s) ≡ false) where
+  module _ (none : beginsWith (bytes "inf\n") (drop at s) ≡ false) where
     pub ticks-missing : fieldAt s at true ≡ number-read.NoNumber → Refused (Malformed line) ≡ latestLine (latest earliest .read s at line)
     ticks-missing e = rw (none, e)
 
@@ -62,17 +61,17 @@ module _ (earliest : ℕ) (s : List ℕ) (at line : ℕ) where
     ticks-read n next e j = rw (none, e, j)
 
 -- ---- the weights of a transition
-module _ (places earliest : ℕ) (l : Latest) (s : List ℕ) (at line : ℕ) (t : Numbers) (p : t ≡ numbers (keyed takeKey (items places 16 0 255) .read s at line)) where
+module _ (places earliest : ℕ) (l : Latest) (s : List ℕ) (at line : ℕ) (t : Numbers) (p : t ≡ numbers (keyed (bytes "take=") (items places 16 0 255) .read s at line)) where
   abbrev takes : Form (List ℕ)
-  takes = keyed takeKey (items places 16 0 255)
+  takes = keyed (bytes "take=") (items places 16 0 255)
 
   abbrev gives : List ℕ → Form (List ℕ)
-  gives _ = keyed giveKey (items places 16 0 255)
+  gives _ = keyed (bytes "give=") (items places 16 0 255)
 
   pub take-stopped : {r : Refusal} → t .read ≡ Stopped r → transitionRead (refused r) ≡ weighted earliest l (weights places .read s at line)
   take-stopped e = ap (weighted earliest l) (sym (chain-stopped takes gives s at line (numbers-stopped (takes .read s at line) t p e)))
 
-  module _ {next : ℕ} (e : t .read ≡ Next next) (g : Numbers) (q : g ≡ numbers (keyed giveKey (items places 16 0 255) .read s next (line + 1))) where
+  module _ {next : ℕ} (e : t .read ≡ Next next) (g : Numbers) (q : g ≡ numbers (keyed (bytes "give=") (items places 16 0 255) .read s next (line + 1))) where
     take-read : takes .read s at line ≡ found (t .items) next
     take-read = numbers-found (takes .read s at line) t p e
 
@@ -94,14 +93,14 @@ together n l (refused r) = refl
 
 module _ (places : ℕ) (s : List ℕ) (at line : ℕ) where
   abbrev earliestLine : Found ℕ
-  earliestLine = keyed earliestKey (number (ranged 0 1000)) .read s at line
+  earliestLine = keyed (bytes "earliest=") (number (ranged 0 1000)) .read s at line
 
   pub earliest-stopped : {r : Refusal} → numberLine earliestLine ≡ number-line.Refused r → transitionRead (refused r) ≡ transitionRead (transition places .read s at line)
   earliest-stopped e = rw (number-refused earliestLine e)
 
   module _ {n next : ℕ} (e : numberLine earliestLine ≡ number-line.Value n next) where
     abbrev latestLines : Found Latest
-    latestLines = keyed latestKey (latest n) .read s next (line + 1)
+    latestLines = keyed (bytes "latest=") (latest n) .read s next (line + 1)
 
     pub latest-stopped : {r : Refusal} → latestLine latestLines ≡ Refused r → transitionRead (refused r) ≡ transitionRead (transition places .read s at line)
     latest-stopped e′ = rw (number-found earliestLine e, latest-refused latestLines e′)
@@ -114,7 +113,7 @@ module _ (places : ℕ) (s : List ℕ) (at line : ℕ) where
 
 -- ---- the lines `start`
 abbrev pub startLine : Form ℕ
-startLine = keyed startKey (number (ranged 0 255))
+startLine = keyed (bytes "start=") (number (ranged 0 255))
 
 pub start-begins : (places : ℕ) (s : List ℕ) (at line : ℕ) → places ≤ 16 → Reading startLine places 16 0 s at line (replicate 16 0) 0 at (line + 0)
 start-begins places s at line h = rw (add-zero line) (reading-start startLine places 16 0 s at line h)
@@ -184,14 +183,14 @@ counted-together p t (refused r) = refl
 
 module _ (s : List ℕ) where
   abbrev placesLine : Found ℕ
-  placesLine = keyed placesKey (number (ranged 1 16)) .read s 0 1
+  placesLine = keyed (bytes "places=") (number (ranged 1 16)) .read s 0 1
 
   pub places-stopped : {r : Refusal} → numberLine placesLine ≡ number-line.Refused r → netRead (refused r) ≡ netRead (netCard .read s 0 1)
   places-stopped e = rw (number-refused placesLine e)
 
   module _ {p next : ℕ} (e : numberLine placesLine ≡ number-line.Value p next) where
     abbrev transitionsLine : Found ℕ
-    transitionsLine = keyed transitionsKey (number (ranged 1 32)) .read s next 2
+    transitionsLine = keyed (bytes "transitions=") (number (ranged 1 32)) .read s next 2
 
     pub transitions-stopped : {r : Refusal} → numberLine transitionsLine ≡ number-line.Refused r → netRead (refused r) ≡ netRead (netCard .read s 0 1)
     transitions-stopped e′ = rw (number-found placesLine e, number-refused transitionsLine e′)
@@ -202,8 +201,8 @@ module _ (s : List ℕ) where
 
       pub counts-small : (p ≤ 16) × (t ≤ 32)
       counts-small = (
-        ranged-read placesKey 1 16 (lit< tt) p s 0 next 1 (number-found placesLine e) .1,
-        ranged-read transitionsKey 1 32 (lit< tt) t s next to 2 (number-found transitionsLine e′) .1,
+        ranged-read (bytes "places=") 1 16 (lit< tt) p s 0 next 1 (number-found placesLine e) .1,
+        ranged-read (bytes "transitions=") 1 32 (lit< tt) t s next to 2 (number-found transitionsLine e′) .1,
       )
 
 -- ---- what lies behind the card

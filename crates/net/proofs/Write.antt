@@ -16,35 +16,35 @@ use Rattle.reply.specs.declared.Checked.the-variants as checked
 use Rattle.reply.specs.declared.Reply.{Reply}
 use Rattle.reply.specs.declared.Reply.the-variants.{Refused}
 use Rattle.reply.specs.Respond.{Responded, answer}
+use Rattle.text.specs.Key.{bytes}
 use Rattle.text.specs.Decimal.{field}
 use Rattle.form.specs.Line.{itemsText}
 use Rattle.form.proofs.Loops.{Writing, writing-room, writing-more}
 use Rattle.net.specs.declared.Transition.{Transition}
 use Rattle.net.specs.declared.Net.{Net}
-use Rattle.net.specs.Keys.{placesKey, transitionsKey, earliestKey, latestKey, takeKey, giveKey}
 use Rattle.net.specs.Net.{latestText, transition, noTransition, table, netCard}
 use Rattle.net.specs.Code.{writtenIf}
 use Rattle.net.proofs.Card.{net-short, net-places, net-transitions}
 
 -- ---- the four lines of a transition
 abbrev pub earliestText : Transition → List ℕ
-earliestText t = earliestKey ++ field (t .earliest) true
+earliestText t = bytes "earliest=" ++ field (t .earliest) true
 
 abbrev pub latestLineText : Transition → List ℕ
-latestLineText t = latestKey ++ latestText (t .latest)
+latestLineText t = bytes "latest=" ++ latestText (t .latest)
 
 abbrev pub takeText : ℕ → Transition → List ℕ
-takeText places t = takeKey ++ itemsText (firstOf places 0 (t .take))
+takeText places t = bytes "take=" ++ itemsText (firstOf places 0 (t .take))
 
 abbrev pub giveText : ℕ → Transition → List ℕ
-giveText places t = giveKey ++ itemsText (firstOf places 0 (t .give))
+giveText places t = bytes "give=" ++ itemsText (firstOf places 0 (t .give))
 
 -- ---- the two lines with the counts of a net
 abbrev pub placesText : Net → List ℕ
-placesText n = placesKey ++ field (n .places) true
+placesText n = bytes "places=" ++ field (n .places) true
 
 abbrev pub transitionsText : Net → List ℕ
-transitionsText n = transitionsKey ++ field (n .transitions) true
+transitionsText n = bytes "transitions=" ++ field (n .transitions) true
 
 -- ---- the transitions of an array; d is what stands past its end
 module _ (places : ℕ) {transitions : ℕ} {l : List Transition} {out₀ : List ℕ} {at : ℕ} {out : List ℕ} {i to : ℕ}

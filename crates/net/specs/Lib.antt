@@ -1,4 +1,3 @@
 pub mod Code
-pub mod Keys
 pub mod Net
 pub mod Same

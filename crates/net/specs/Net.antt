@@ -7,7 +7,7 @@ use lib.Dec.{ltb}
 use Rattle.reply.specs.declared.Refusal.the-variants.{LatestBelowEarliest}
 use Rattle.reply.specs.declared.Checked.{Checked}
 use Rattle.reply.specs.declared.Checked.the-variants.{Passed, Refused}
-use Rattle.text.specs.Key.{beginsWith}
+use Rattle.text.specs.Key.{bytes, beginsWith}
 use Rattle.text.specs.Number.{fieldAt}
 use Rattle.text.specs.Decimal.{field}
 use Rattle.form.specs.Form.{found, andThen, judged, also, Form, keyed, chain, times, held}
@@ -16,7 +16,6 @@ use Rattle.net.specs.declared.Latest.{Latest}
 use Rattle.net.specs.declared.Latest.the-variants.{Unbounded, Ticks}
 use Rattle.net.specs.declared.Transition.{Transition}
 use Rattle.net.specs.declared.Net.{Net}
-use Rattle.net.specs.Keys.{placesKey, transitionsKey, startKey, earliestKey, latestKey, takeKey, giveKey, infLine}
 
 -- `latest`: 0 to 1,000 ticks, or the word `inf` for no upper bound; below `earliest` it is 3
 abbrev pub latestChecked : ℕ → Latest → ℕ → Checked
@@ -24,7 +23,7 @@ latestChecked earliest Unbounded line = Passed
 latestChecked earliest (Ticks n) line = also (ranged 0 1000 n line) (cond (ltb n earliest) (Refused (LatestBelowEarliest line)) Passed)
 
 abbrev pub latestText : Latest → List ℕ
-latestText Unbounded = infLine
+latestText Unbounded = bytes "inf\n"
 latestText (Ticks n) = field n true
 
 abbrev pub latest : ℕ → Form Latest
@@ -34,19 +33,19 @@ latest earliest =
       lines = λ l. 1;
       check = latestChecked earliest;
       read = λ s at line.
-          cond (beginsWith infLine (drop at s)) (found Unbounded (at + length infLine))
+          cond (beginsWith (bytes "inf\n") (drop at s)) (found Unbounded (at + length (bytes "inf\n")))
           (andThen (formed line (fieldAt s at true)) (λ n next. judged (latestChecked earliest (Ticks n) line) (Ticks n) next));
       clean = λ l. l;
     }
 
 -- a transition of a net with so many places: `earliest` (0 to 1,000 ticks), `latest`, `take` and `give` (lists of exactly P weights, 0 to 255)
 abbrev pub weights : ℕ → Form (List ℕ × List ℕ)
-weights places = chain (keyed takeKey (items places 16 0 255)) (λ _. keyed giveKey (items places 16 0 255))
+weights places = chain (keyed (bytes "take=") (items places 16 0 255)) (λ _. keyed (bytes "give=") (items places 16 0 255))
 
 abbrev pub transitionLines : ℕ → Form (ℕ × (Latest × (List ℕ × List ℕ)))
 transitionLines places =
-    chain (keyed earliestKey (number (ranged 0 1000)))
-    (λ earliest. chain (keyed latestKey (latest earliest)) (λ _. weights places))
+    chain (keyed (bytes "earliest=") (number (ranged 0 1000)))
+    (λ earliest. chain (keyed (bytes "latest=") (latest earliest)) (λ _. weights places))
 
 abbrev pub toTransition : ℕ × (Latest × (List ℕ × List ℕ)) → Transition
 toTransition v = record { earliest = v .0; latest = v .1 .0; take = v .1 .1 .0; give = v .1 .1 .1 }
@@ -63,7 +62,7 @@ noTransition = record { earliest = 0; latest = Unbounded; take = replicate 16 0;
 
 -- the lines of a net card: `places` P (1 to 16), `transitions` T (1 to 32), P lines `start` (0 to 255), T transitions
 abbrev pub starts : ℕ → Form (List ℕ)
-starts places = times places 16 0 (keyed startKey (number (ranged 0 255)))
+starts places = times places 16 0 (keyed (bytes "start=") (number (ranged 0 255)))
 
 abbrev pub table : ℕ → ℕ → Form (List Transition)
 table places transitions = times transitions 32 noTransition (transition places)
@@ -73,8 +72,8 @@ body places transitions = chain (starts places) (λ _. table places transitions)
 
 abbrev pub netLines : Form (ℕ × (ℕ × (List ℕ × List Transition)))
 netLines =
-    chain (keyed placesKey (number (ranged 1 16)))
-    (λ places. chain (keyed transitionsKey (number (ranged 1 32))) (λ transitions. body places transitions))
+    chain (keyed (bytes "places=") (number (ranged 1 16)))
+    (λ places. chain (keyed (bytes "transitions=") (number (ranged 1 32))) (λ transitions. body places transitions))
 
 abbrev pub toNet : ℕ × (ℕ × (List ℕ × List Transition)) → Net
 toNet v = record { places = v .0; transitions = v .1 .0; start = v .1 .1 .0; table = v .1 .1 .1 }

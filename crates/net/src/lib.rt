@@ -14,10 +14,10 @@ ghost use lib.ListN.{length, drop};
 ghost use Rattle.laws.specs.Splice.{Wrote};
 ghost use Rattle.reply.specs.Respond.{Responded};
 ghost use mathlib.Core.Bool.{true};
+ghost use Rattle.text.specs.Key.{bytes};
 ghost use Rattle.text.specs.Decimal.{field};
 ghost use Rattle.form.specs.Form.{keyed, refused};
 ghost use Rattle.form.specs.Code.{numbers};
-ghost use Rattle.net.specs.Keys.{latestKey, startKey};
 ghost use Rattle.net.specs.Net.{latest, latestChecked, latestText, weights, transition, starts, table, body, netCard};
 ghost use Rattle.net.specs.Code.{latestLine, transitionRead, weighted, tableRead, netRead, counted, remainderStart, netText};
 
@@ -120,7 +120,7 @@ fn latest_at(s: &[u8], at: usize, earliest: u32, line: usize) -> LatestLine
 
 // The line `latest`.
 fn latest_line(s: &[u8], at: usize, earliest: u32, line: usize) -> LatestLine
-    ensures { λ r. ⌜ r ≡ latestLine (keyed latestKey (latest earliest) .read (now (s .entry)) at line) ⌝ }
+    ensures { λ r. ⌜ r ≡ latestLine (keyed (bytes "latest=") (latest earliest) .read (now (s .entry)) at line) ⌝ }
 {
     if text::begins_at(s, at, b"latest=") {
         latest_at(s, at + 7, earliest, line)
@@ -430,8 +430,8 @@ pub fn check_net(net: Net) -> Checked
 
 // The line `latest` written to a position; the position behind it.
 fn put_latest_line(out: &mut [u8], at: usize, latest: Latest) -> usize
-    requires { ⌜ at + length (latestKey ++ latestText latest) ≤ length (now out) ⌝ }
-    ensures { λ r. ⌜ Wrote (now (out .entry)) at (latestKey ++ latestText latest) r (now (out .exit)) ⌝ }
+    requires { ⌜ at + length (bytes "latest=" ++ latestText latest) ≤ length (now out) ⌝ }
+    ensures { λ r. ⌜ Wrote (now (out .entry)) at (bytes "latest=" ++ latestText latest) r (now (out .exit)) ⌝ }
 {
     let to = text::put_bytes(&mut *out, at, b"latest=");
     match latest {
@@ -469,8 +469,8 @@ fn put_start(out: &mut [u8], at: usize, start: [u32; 16], places: usize) -> usiz
 }
 
 fn put_start_line(out: &mut [u8], at: usize, tokens: u32) -> usize
-    requires { ⌜ at + length (startKey ++ field tokens true) ≤ length (now out) ⌝ }
-    ensures { λ r. ⌜ Wrote (now (out .entry)) at (startKey ++ field tokens true) r (now (out .exit)) ⌝ }
+    requires { ⌜ at + length (bytes "start=" ++ field tokens true) ≤ length (now out) ⌝ }
+    ensures { λ r. ⌜ Wrote (now (out .entry)) at (bytes "start=" ++ field tokens true) r (now (out .exit)) ⌝ }
 {
     form::put_number_line(&mut *out, at, b"start=", tokens as u64)
 }

@@ -10,6 +10,7 @@ use lib.Dec.{lit<}
 use borrow.Author.Tests.{le-leb, lt-leb}
 use Rattle.reply.specs.declared.Refusal.{Refusal}
 use Rattle.reply.specs.declared.Refusal.the-variants.{Malformed}
+use Rattle.text.specs.Key.{bytes}
 use Rattle.form.specs.declared.NumberLine.the-variants.{Value, Refused}
 use Rattle.form.specs.declared.LineRead.the-variants.{Next, Stopped}
 use Rattle.form.specs.Form.{Found, found, refused, andThen, Form, keyed, chain, times, alone}
@@ -29,16 +30,15 @@ use Rattle.run.specs.declared.Run.{Run}
 use Rattle.run.specs.declared.RunRead.{RunRead}
 use Rattle.run.specs.declared.Order.{Order}
 use Rattle.run.specs.declared.OrderRead.{OrderRead}
-use Rattle.run.specs.Keys.{memoryKey, denominatorKey, firingsKey, waitKey, restKey}
 use Rattle.run.specs.Run.{memory, firings, fire, parts, firing, noFiring, steps, runLines, toRun, runCard, orderLines, toOrder, orderCard}
 use Rattle.run.specs.Code.{memoryLine, firingRead, firingsRead, firesRead, noRun, noOrder, runRead, orderRead, runFrom, orderFrom}
 
 -- the first lines of the cards
 abbrev memories : Form Memory
-memories = keyed memoryKey memory
+memories = keyed (bytes "memory=") memory
 
 abbrev denominators : Form ℕ
-denominators = keyed denominatorKey (number (ranged 1 1000))
+denominators = keyed (bytes "denominator=") (number (ranged 1 1000))
 
 -- ---- what an answer tells
 memory-found : (f : Found Memory) {m : Memory} {next : ℕ} → memoryLine f ≡ memory-line.Value m next → f ≡ found m next
@@ -63,19 +63,19 @@ firing-refused (refused r) e = cc
 
 -- ---- the two lines of a firing
 module _ (transitions : ℕ) (s : List ℕ) (at line : ℕ) where
-  pub no-wait : {r : Refusal} → numberLine (parts waitKey .read s at line) ≡ Refused r → firing-read.Refused r ≡ firingRead (firing transitions .read s at line)
-  no-wait e = rw (number-refused (parts waitKey .read s at line) e)
+  pub no-wait : {r : Refusal} → numberLine (parts (bytes "wait=") .read s at line) ≡ Refused r → firing-read.Refused r ≡ firingRead (firing transitions .read s at line)
+  no-wait e = rw (number-refused (parts (bytes "wait=") .read s at line) e)
 
-  module _ {wait next : ℕ} (w : numberLine (parts waitKey .read s at line) ≡ Value wait next) where
+  module _ {wait next : ℕ} (w : numberLine (parts (bytes "wait=") .read s at line) ≡ Value wait next) where
     pub no-fire : {r : Refusal} → numberLine (fire transitions .read s next (line + 1)) ≡ Refused r → firing-read.Refused r ≡ firingRead (firing transitions .read s at line)
-    no-fire e = rw (number-found (parts waitKey .read s at line) w, number-refused (fire transitions .read s next (line + 1)) e)
+    no-fire e = rw (number-found (parts (bytes "wait=") .read s at line) w, number-refused (fire transitions .read s next (line + 1)) e)
 
     pub wait-fire : {fired end : ℕ} → numberLine (fire transitions .read s next (line + 1)) ≡ Value fired end → firing-read.Value wait fired end ≡ firingRead (firing transitions .read s at line)
-    wait-fire e = rw (number-found (parts waitKey .read s at line) w, number-found (fire transitions .read s next (line + 1)) e)
+    wait-fire e = rw (number-found (parts (bytes "wait=") .read s at line) w, number-found (fire transitions .read s next (line + 1)) e)
 
 -- ---- a count of firings that was read
 firings-few : (s : List ℕ) (at line : ℕ) {count next : ℕ} → firings .read s at line ≡ found count next → count ≤ 64
-firings-few s at line {count} {next} e = ranged-read firingsKey 0 64 (lit< tt) count s at next line e .1
+firings-few s at line {count} {next} e = ranged-read (bytes "firings=") 0 64 (lit< tt) count s at next line e .1
 
 pub count-few : (s : List ℕ) (at line : ℕ) {count next : ℕ} → numberLine (firings .read s at line) ≡ Value count next → count ≤ 64
 count-few s at line e = firings-few s at line (number-found (firings .read s at line) e)
@@ -124,7 +124,7 @@ module _ (m : Memory) (d transitions count : ℕ) (s : List ℕ) (at : ℕ) (t :
   all = times count 64 noFiring (firing transitions)
 
   abbrev rests : List Firing → Form ℕ
-  rests _ = parts restKey
+  rests _ = parts (bytes "rest=")
 
   abbrev told : Found (List Firing × ℕ) → RunRead
   told f = runRead (runFrom m d count f)
@@ -140,13 +140,13 @@ module _ (m : Memory) (d transitions count : ℕ) (s : List ℕ) (at : ℕ) (t :
     lines-behind : 4 + all .lines (t .firings) ≡ 4 + 2 * count
     lines-behind = ap (λ (n : ℕ). 4 + n) (times-lines count 64 noFiring (firing transitions) 2 (λ f. refl) (t .firings))
 
-    pub rest-stopped : {r : Refusal} → numberLine (parts restKey .read s next (4 + 2 * count)) ≡ Refused r → runRead (refused r) ≡ told (steps transitions count .read s at 4)
+    pub rest-stopped : {r : Refusal} → numberLine (parts (bytes "rest=") .read s next (4 + 2 * count)) ≡ Refused r → runRead (refused r) ≡ told (steps transitions count .read s at 4)
     rest-stopped z =
-        ap told (sym (chain-then-stopped all rests s at 4 firings-read (rw lines-behind (number-refused (parts restKey .read s next (4 + 2 * count)) z))))
+        ap told (sym (chain-then-stopped all rests s at 4 firings-read (rw lines-behind (number-refused (parts (bytes "rest=") .read s next (4 + 2 * count)) z))))
 
-    pub steps-read : {rest end : ℕ} → numberLine (parts restKey .read s next (4 + 2 * count)) ≡ Value rest end
+    pub steps-read : {rest end : ℕ} → numberLine (parts (bytes "rest=") .read s next (4 + 2 * count)) ≡ Value rest end
         → record { read = Next end; run = record { memory = m; denominator = d; count = count; firings = t .firings; rest = rest } } ≡ told (steps transitions count .read s at 4)
-    steps-read z = ap told (sym (chain-found all rests s at 4 firings-read (rw lines-behind (number-found (parts restKey .read s next (4 + 2 * count)) z))))
+    steps-read z = ap told (sym (chain-found all rests s at 4 firings-read (rw lines-behind (number-found (parts (bytes "rest=") .read s next (4 + 2 * count)) z))))
 
 -- ---- a run card
 -- the values of the lines put together, at once or one after the other

@@ -7,19 +7,19 @@ use lib.ListN.{length}
 use Rattle.laws.specs.FourWriters.{first-room, second-room, third-room, fourth-room, wrote-four}
 use Rattle.laws.specs.Room.{room-first, room-then, wrote-both}
 use Rattle.laws.specs.Splice.{Wrote}
+use Rattle.text.specs.Key.{bytes}
 use Rattle.text.specs.Decimal.{field}
 use Rattle.form.specs.Form.{times}
 use Rattle.run.specs.declared.Memory.{Memory}
 use Rattle.run.specs.declared.Run.{Run}
 use Rattle.run.specs.declared.Order.{Order}
-use Rattle.run.specs.Keys.{memoryKey, denominatorKey, firingsKey, restKey}
 use Rattle.run.specs.Run.{memoryText, fire, firing, noFiring, runCard, orderCard}
 
 abbrev memoryPart : Memory → List ℕ
-memoryPart m = memoryKey ++ memoryText m
+memoryPart m = bytes "memory=" ++ memoryText m
 
 abbrev countPart : ℕ → List ℕ
-countPart count = firingsKey ++ field count true
+countPart count = bytes "firings=" ++ field count true
 
 -- ---- a run card
 module _ (transitions : ℕ) (run : Run) (s : List ℕ) (at : ℕ) (room : at + length (runCard transitions .text run) ≤ length s) where
@@ -27,7 +27,7 @@ module _ (transitions : ℕ) (run : Run) (s : List ℕ) (at : ℕ) (room : at + 
   memory = memoryPart (run .memory)
 
   abbrev denominator : List ℕ
-  denominator = denominatorKey ++ field (run .denominator) true
+  denominator = bytes "denominator=" ++ field (run .denominator) true
 
   abbrev count : List ℕ
   count = countPart (run .count)
@@ -36,7 +36,7 @@ module _ (transitions : ℕ) (run : Run) (s : List ℕ) (at : ℕ) (room : at + 
   firings = times (run .count) 64 noFiring (firing transitions) .text (run .firings)
 
   abbrev rest : List ℕ
-  rest = restKey ++ field (run .rest) true
+  rest = bytes "rest=" ++ field (run .rest) true
 
   pub run-memory-room : at + length memory ≤ length s
   run-memory-room = room-first s at memory (denominator ++ (count ++ (firings ++ rest))) room

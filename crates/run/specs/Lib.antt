@@ -1,4 +1,3 @@
-pub mod Keys
 pub mod Run
 pub mod Same
 pub mod Code

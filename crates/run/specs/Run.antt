@@ -5,7 +5,7 @@ use mathlib.Core.List.{List}
 use lib.ListN.{length, drop}
 use Rattle.reply.specs.declared.Refusal.the-variants.{Malformed}
 use Rattle.reply.specs.declared.Checked.the-variants.{Passed}
-use Rattle.text.specs.Key.{beginsWith}
+use Rattle.text.specs.Key.{bytes, beginsWith}
 use Rattle.form.specs.Form.{found, refused, Form, keyed, chain, times, held}
 use Rattle.form.specs.Line.{ranged, listed, number}
 use Rattle.run.specs.declared.Memory.{Memory}
@@ -13,12 +13,11 @@ use Rattle.run.specs.declared.Memory.the-variants.{Intermediate, Atomic}
 use Rattle.run.specs.declared.Firing.{Firing}
 use Rattle.run.specs.declared.Run.{Run}
 use Rattle.run.specs.declared.Order.{Order}
-use Rattle.run.specs.Keys.{memoryKey, denominatorKey, firingsKey, waitKey, fireKey, restKey, intermediateLine, atomicLine}
 
 -- `memory`: one of the words
 abbrev pub memoryText : Memory → List ℕ
-memoryText Intermediate = intermediateLine
-memoryText Atomic = atomicLine
+memoryText Intermediate = bytes "intermediate\n"
+memoryText Atomic = bytes "atomic\n"
 
 abbrev pub memory : Form Memory
 memory =
@@ -27,18 +26,18 @@ memory =
       lines = λ m. 1;
       check = λ m line. Passed;
       read = λ s at line.
-          cond (beginsWith intermediateLine (drop at s)) (found Intermediate (at + length intermediateLine))
-          (cond (beginsWith atomicLine (drop at s)) (found Atomic (at + length atomicLine)) (refused (Malformed line)));
+          cond (beginsWith (bytes "intermediate\n") (drop at s)) (found Intermediate (at + length (bytes "intermediate\n")))
+          (cond (beginsWith (bytes "atomic\n") (drop at s)) (found Atomic (at + length (bytes "atomic\n"))) (refused (Malformed line)));
       clean = λ m. m;
     }
 
 -- `firings` N (0 to 64)
 abbrev pub firings : Form ℕ
-firings = keyed firingsKey (number (ranged 0 64))
+firings = keyed (bytes "firings=") (number (ranged 0 64))
 
 -- `fire`: a transition number; one that is not in the net is 4
 abbrev pub fire : ℕ → Form ℕ
-fire transitions = keyed fireKey (number (listed transitions))
+fire transitions = keyed (bytes "fire=") (number (listed transitions))
 
 -- waits and rest are 0 to 10,000,000 parts
 abbrev pub parts : List ℕ → Form ℕ
@@ -46,7 +45,7 @@ parts key = keyed key (number (ranged 0 10000000))
 
 -- a firing: `wait` and `fire`
 abbrev pub firingLines : ℕ → Form (ℕ × ℕ)
-firingLines transitions = chain (parts waitKey) (λ _. fire transitions)
+firingLines transitions = chain (parts (bytes "wait=")) (λ _. fire transitions)
 
 abbrev pub toFiring : ℕ × ℕ → Firing
 toFiring v = record { wait = v .0; fire = v .1 }
@@ -62,13 +61,13 @@ noFiring = record { wait = 0; fire = 0 }
 
 -- the firings of a run card, and last `rest`
 abbrev pub steps : ℕ → ℕ → Form (List Firing × ℕ)
-steps transitions count = chain (times count 64 noFiring (firing transitions)) (λ _. parts restKey)
+steps transitions count = chain (times count 64 noFiring (firing transitions)) (λ _. parts (bytes "rest="))
 
 -- a run card: `memory`, `denominator` D (1 to 1,000), `firings`, the firings, `rest`
 abbrev pub runLines : ℕ → Form (Memory × (ℕ × (ℕ × (List Firing × ℕ))))
 runLines transitions =
-    chain (keyed memoryKey memory)
-    (λ _. chain (keyed denominatorKey (number (ranged 1 1000))) (λ _. chain firings (λ count. steps transitions count)))
+    chain (keyed (bytes "memory=") memory)
+    (λ _. chain (keyed (bytes "denominator=") (number (ranged 1 1000))) (λ _. chain firings (λ count. steps transitions count)))
 
 abbrev pub toRun : Memory × (ℕ × (ℕ × (List Firing × ℕ))) → Run
 toRun v = record { memory = v .0; denominator = v .1 .0; count = v .1 .1 .0; firings = v .1 .1 .1 .0; rest = v .1 .1 .1 .1 }
@@ -82,7 +81,7 @@ runCard transitions = held toRun fromRun (runLines transitions)
 -- an order card: `memory`, `firings`, then the `fire` lines
 abbrev pub orderLines : ℕ → Form (Memory × (ℕ × List ℕ))
 orderLines transitions =
-    chain (keyed memoryKey memory) (λ _. chain firings (λ count. times count 64 0 (fire transitions)))
+    chain (keyed (bytes "memory=") memory) (λ _. chain firings (λ count. times count 64 0 (fire transitions)))
 
 abbrev pub toOrder : Memory × (ℕ × List ℕ) → Order
 toOrder v = record { memory = v .0; count = v .1 .0; fires = v .1 .1 }

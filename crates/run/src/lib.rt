@@ -9,9 +9,9 @@ ghost use mathlib.Core.List.{_++_};
 ghost use Prim.Native.Nat.{_+_, _≤_};
 ghost use lib.ListN.{length};
 ghost use Rattle.laws.specs.Splice.{Wrote};
+ghost use Rattle.text.specs.Key.{bytes};
 ghost use Rattle.text.specs.Decimal.{field};
 ghost use Rattle.form.specs.Form.{keyed, times, alone, refused};
-ghost use Rattle.run.specs.Keys.{memoryKey, fireKey};
 ghost use Rattle.run.specs.Run.{memory, memoryText, fire, firing, noFiring, steps, runCard, orderCard};
 ghost use Rattle.run.specs.Code.{memoryLine, firingRead, firingsRead, firesRead, runRead, orderRead, runFrom, orderFrom};
 
@@ -72,7 +72,7 @@ pub struct OrderRead {
 
 // The line `memory`.
 fn memory_line(s: &[u8], at: usize, line: usize) -> MemoryLine
-    ensures { λ r. ⌜ r ≡ memoryLine (keyed memoryKey memory .read (now (s .entry)) at line) ⌝ }
+    ensures { λ r. ⌜ r ≡ memoryLine (keyed (bytes "memory=") memory .read (now (s .entry)) at line) ⌝ }
 {
     if text::begins_at(s, at, b"memory=") {
         memory_at(s, at + 7, line)
@@ -460,8 +460,8 @@ pub fn check_order_lines(order: Order, transitions: usize) -> Checked
 
 // The line `memory` written to a position; the position behind it.
 fn put_memory_line(out: &mut [u8], at: usize, m: Memory) -> usize
-    requires { ⌜ at + length (memoryKey ++ memoryText m) ≤ length (now out) ⌝ }
-    ensures { λ r. ⌜ Wrote (now (out .entry)) at (memoryKey ++ memoryText m) r (now (out .exit)) ⌝ }
+    requires { ⌜ at + length (bytes "memory=" ++ memoryText m) ≤ length (now out) ⌝ }
+    ensures { λ r. ⌜ Wrote (now (out .entry)) at (bytes "memory=" ++ memoryText m) r (now (out .exit)) ⌝ }
 {
     let to = text::put_bytes(&mut *out, at, b"memory=");
     match m {
@@ -520,8 +520,8 @@ pub fn put_run(out: &mut [u8], at: usize, run: Run, transitions: usize) -> usize
 }
 
 fn put_fire_line(out: &mut [u8], at: usize, fire: u32) -> usize
-    requires { ⌜ at + length (fireKey ++ field fire true) ≤ length (now out) ⌝ }
-    ensures { λ r. ⌜ Wrote (now (out .entry)) at (fireKey ++ field fire true) r (now (out .exit)) ⌝ }
+    requires { ⌜ at + length (bytes "fire=" ++ field fire true) ≤ length (now out) ⌝ }
+    ensures { λ r. ⌜ Wrote (now (out .entry)) at (bytes "fire=" ++ field fire true) r (now (out .exit)) ⌝ }
 {
     form::put_number_line(&mut *out, at, b"fire=", fire as u64)
 }

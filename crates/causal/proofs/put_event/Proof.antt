@@ -7,9 +7,8 @@ use mathlib.Core.List.{List, _++_, map}
 use lib.ListN.{length}
 use borrow.Author.Needs.{needs}
 use Rattle.laws.specs.Room.{room-first, room-then, wrote-both}
+use Rattle.text.specs.Key.{bytes}
 use Rattle.text.specs.Decimal.{field}
-use Rattle.run.specs.Keys.{fireKey}
-use Rattle.causal.specs.Keys.{fromKey}
 use Rattle.causal.specs.Process.{itemsOf}
 use Rattle.causal.specs.Print.{itemText, listText}
 use Rattle.causal.specs.Counts.{takenIn}
@@ -18,12 +17,12 @@ use Rattle.causal.proofs.put_event.Statement.{statement}
 use Rattle.causal.proofs.put_event.Tie as tie
 
 abbrev fire-line : tie.Start → List ℕ
-fire-line b = fireKey ++ field (b .args .t) true
+fire-line b = bytes "fire=" ++ field (b .args .t) true
 
 abbrev from-line : tie.Start → List ℕ
 from-line b =
     let a = b .args in
-    fromKey ++ listText (map itemText (itemsOf (takenIn (a .counts .now) (a .top) (a .weights .now)) (a .places)))
+    bytes "from=" ++ listText (map itemText (itemsOf (takenIn (a .counts .now) (a .top) (a .weights .now)) (a .places)))
 
 room : (b : tie.Start) → b .args .at + length (fire-line b ++ from-line b) ≤ length (b .args .out .now)
 room b =

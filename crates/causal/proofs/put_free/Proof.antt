@@ -7,7 +7,7 @@ use lib.ListN.{length}
 use borrow.Author.Needs.{needs}
 use borrow.Author.Tests.{not-true, not-false}
 use Rattle.laws.specs.Splice.{wrote-length}
-use Rattle.causal.specs.Keys.{freeKey}
+use Rattle.text.specs.Key.{bytes}
 use Rattle.causal.specs.Print.{joinedBy, listText}
 use Rattle.causal.specs.Counts.{unset}
 use Rattle.causal.proofs.Listing.{Listing, line-start, texts-room, end-room, line-done}
@@ -27,7 +27,7 @@ room-here : (w : tie.After-put-bytes Inv-loop μ-loop)
     ≤ length (w .put-bytes .last .0)
 room-here w =
     let b = w .before .before .before .before .before in
-    texts-room (b .args .out .now) (b .args .at) freeKey (numbersFrom (b .args .linked .now) (b .args .count) 1)
+    texts-room (b .args .out .now) (b .args .at) (bytes "free=") (numbersFrom (b .args .linked .now) (b .args .count) 1)
     (numbers-long (unset (b .args .linked .now) 1 (b .args .count - 1)))
     (b .pre .2) (w .put-bytes .result) (w .put-bytes .last .0) (w .put-bytes .ensures)
 
@@ -35,7 +35,7 @@ loop-holds : tie.Need-loop-holds Inv-loop μ-loop
 loop-holds c =
     let w = c .before .before in
     let b = w .before .before .before .before .before in
-    line-start (b .args .out .now) (b .args .at) freeKey (numbersFrom (b .args .linked .now) (b .args .count) 1)
+    line-start (b .args .out .now) (b .args .at) (bytes "free=") (numbersFrom (b .args .linked .now) (b .args .count) 1)
     (numbers-long (unset (b .args .linked .now) 1 (b .args .count - 1)))
     (b .pre .2) (w .put-bytes .result) (w .put-bytes .last .0) (w .put-bytes .ensures)
 
@@ -78,7 +78,7 @@ end-list-requires c κs =
     let w = l .before .before .before in
     let b = w .before .before .before .before .before in
     let a = b .args in
-    end-room (a .out .now) (a .at) freeKey (numbersFrom (a .linked .now) (a .count) 1) (numbers-long (unset (a .linked .now) 1 (a .count - 1))) (b .pre .2)
+    end-room (a .out .now) (a .at) (bytes "free=") (numbersFrom (a .linked .now) (a .count) 1) (numbers-long (unset (a .linked .now) 1 (a .count - 1))) (b .pre .2)
     (w .put-bytes .result) (w .put-bytes .last .0) (w .put-bytes .ensures) (l .loop .to) (l .loop .out)
     (numbersFrom (a .linked .now) (a .count) (l .loop .i)) (l .loop .inv)
     (numbers-none (a .linked .now) (a .count) (l .loop .i) (c .before .loop-test .left))
@@ -90,7 +90,7 @@ returns c =
     let w = l .before .before .before in
     let b = w .before .before .before .before .before in
     let a = b .args in
-    line-done (a .out .now) (a .at) freeKey (numbersFrom (a .linked .now) (a .count) 1) (numbers-long (unset (a .linked .now) 1 (a .count - 1))) (b .pre .2)
+    line-done (a .out .now) (a .at) (bytes "free=") (numbersFrom (a .linked .now) (a .count) 1) (numbers-long (unset (a .linked .now) 1 (a .count - 1))) (b .pre .2)
     (w .put-bytes .result) (w .put-bytes .last .0) (w .put-bytes .ensures) (l .loop .to) (l .loop .out)
     (numbersFrom (a .linked .now) (a .count) (l .loop .i)) (l .loop .inv)
     (numbers-none (a .linked .now) (a .count) (l .loop .i) (e .before .before .loop-test .left)) (e .end-list .result) (e .end-list .last .0)
@@ -99,7 +99,7 @@ returns c =
 same-length : tie.Need-same-length Inv-loop μ-loop
 same-length c =
     let b = c .before .before .before .before .before .before .before .before .before .before .before .before .before in
-    wrote-length (b .args .out .now) (b .args .at) (freeKey ++ listText (numbersFrom (b .args .linked .now) (b .args .count) 1))
+    wrote-length (b .args .out .now) (b .args .at) (bytes "free=" ++ listText (numbersFrom (b .args .linked .now) (b .args .count) 1))
     (c .before .before .end-list .result)
     (c .before .before .end-list .last .0) (b .pre .2) (returns c)
 

@@ -1,7 +1,7 @@
 -- The key is written first, and behind it the number or the word, where there is room for both.
 use borrow.Author.Needs.{needs}
 use Rattle.laws.specs.Room.{room-then, wrote-both}
-use Rattle.engine.specs.Keys.{clockKey}
+use Rattle.text.specs.Key.{bytes}
 use Rattle.engine.proofs.End.{clockValue}
 use Rattle.engine.proofs.put_clock.Statement.{statement}
 use Rattle.engine.proofs.put_clock.Tie as tie
@@ -12,7 +12,7 @@ put-field-requires c κs =
     let k = t .before .before .before in
     let b = k .before .before .before .before in
     rw (t .if1 .taken) at
-    (room-then (b .args .out .now) (b .args .at) clockKey (clockValue (b .args .on) (b .args .clock)) (b .pre) (k .put-bytes .result) (k .put-bytes .last .0) (k .put-bytes .ensures))
+    (room-then (b .args .out .now) (b .args .at) (bytes "clock=") (clockValue (b .args .on) (b .args .clock)) (b .pre) (k .put-bytes .result) (k .put-bytes .last .0) (k .put-bytes .ensures))
 
 put-bytes-requires-2 : tie.Need-put-bytes-requires-2
 put-bytes-requires-2 c κs =
@@ -20,7 +20,7 @@ put-bytes-requires-2 c κs =
     let k = t .before .before .before in
     let b = k .before .before .before .before in
     rw (t .if1 .left) at
-    (room-then (b .args .out .now) (b .args .at) clockKey (clockValue (b .args .on) (b .args .clock)) (b .pre) (k .put-bytes .result) (k .put-bytes .last .0) (k .put-bytes .ensures))
+    (room-then (b .args .out .now) (b .args .at) (bytes "clock=") (clockValue (b .args .on) (b .args .clock)) (b .pre) (k .put-bytes .result) (k .put-bytes .last .0) (k .put-bytes .ensures))
 
 returns : tie.Need-returns
 returns c =
@@ -28,7 +28,7 @@ returns c =
     let t = f .before .before in
     let k = t .before .before .before in
     let b = k .before .before .before .before in
-    wrote-both (b .args .out .now) (b .args .at) clockKey (clockValue (b .args .on) (b .args .clock)) (b .pre) (k .put-bytes .result) (k .put-bytes .last .0) (k .put-bytes .ensures)
+    wrote-both (b .args .out .now) (b .args .at) (bytes "clock=") (clockValue (b .args .on) (b .args .clock)) (b .pre) (k .put-bytes .result) (k .put-bytes .last .0) (k .put-bytes .ensures)
     (f .put-field .result) (f .put-field .last .0) (rw (t .if1 .taken) (f .put-field .ensures))
 
 returns-2 : tie.Need-returns-2
@@ -37,7 +37,7 @@ returns-2 c =
     let t = f .before .before .before in
     let k = t .before .before .before in
     let b = k .before .before .before .before in
-    wrote-both (b .args .out .now) (b .args .at) clockKey (clockValue (b .args .on) (b .args .clock)) (b .pre) (k .put-bytes .result) (k .put-bytes .last .0) (k .put-bytes .ensures)
+    wrote-both (b .args .out .now) (b .args .at) (bytes "clock=") (clockValue (b .args .on) (b .args .clock)) (b .pre) (k .put-bytes .result) (k .put-bytes .last .0) (k .put-bytes .ensures)
     (f .put-bytes2 .result) (f .put-bytes2 .last .0) (rw (t .if1 .left) (f .put-bytes2 .ensures))
 
 pub put-clock-spec : {M : Type 1} → statement M

@@ -2,8 +2,8 @@
 use native.Mathlib.Omega.{arith}
 use mathlib.Core.Path.{sym, _∙_}
 use borrow.Author.Needs.{needs}
+use Rattle.text.specs.Key.{bytes}
 use Rattle.text.proofs.KeyLaws.{begins-split}
-use Rattle.net.specs.Keys.{infLine}
 use Rattle.net.proofs.Read.{word-read, ticks-missing, ticks-refused, ticks-read}
 use Rattle.net.proofs.latest_at.Statement.{statement}
 use Rattle.net.proofs.latest_at.Tie as tie
@@ -12,7 +12,7 @@ add-t15 : tie.Need-add-t15
 add-t15 c =
     let b = c .before in
     let a = b .before .before .before .args in
-    omega (arith, begins-split infLine (a .s .now) (a .at) (sym (b .begins-at .ensures) ∙ c .if1 .taken) .1)
+    omega (arith, begins-split (bytes "inf\n") (a .s .now) (a .at) (sym (b .begins-at .ensures) ∙ c .if1 .taken) .1)
 
 returns : tie.Need-returns
 returns c =

@@ -2,10 +2,10 @@
 use native.Mathlib.Omega.{arith}
 use mathlib.Core.Path.{sym, ap, _∙_}
 use borrow.Author.Needs.{needs}
+use Rattle.text.specs.Key.{bytes}
 use Rattle.text.proofs.KeyLaws.{begins-split}
 use Rattle.form.proofs.Answers.{keyed-there, keyed-missing}
 use Rattle.net.specs.Code.{latestLine}
-use Rattle.net.specs.Keys.{latestKey}
 use Rattle.net.specs.Net.{latest}
 use Rattle.net.proofs.latest_line.Statement.{statement}
 use Rattle.net.proofs.latest_line.Tie as tie
@@ -14,20 +14,20 @@ add-latest-at : tie.Need-add-latest-at
 add-latest-at c =
     let b = c .before in
     let a = b .before .before .before .args in
-    omega (arith, begins-split latestKey (a .s .now) (a .at) (sym (b .begins-at .ensures) ∙ c .if1 .taken) .1)
+    omega (arith, begins-split (bytes "latest=") (a .s .now) (a .at) (sym (b .begins-at .ensures) ∙ c .if1 .taken) .1)
 
 returns : tie.Need-returns
 returns c =
     let b = c .before .before in
     let a = b .before .before .before .args in
     c .latest-at .ensures ∙
-    ap latestLine (sym (keyed-there latestKey (latest (a .earliest)) (a .s .now) (a .at) (a .line) (sym (b .begins-at .ensures) ∙ c .before .if1 .taken)))
+    ap latestLine (sym (keyed-there (bytes "latest=") (latest (a .earliest)) (a .s .now) (a .at) (a .line) (sym (b .begins-at .ensures) ∙ c .before .if1 .taken)))
 
 returns-2 : tie.Need-returns-2
 returns-2 c =
     let b = c .before in
     let a = b .before .before .before .args in
-    ap latestLine (sym (keyed-missing latestKey (latest (a .earliest)) (a .s .now) (a .at) (a .line) (sym (b .begins-at .ensures) ∙ c .if1 .left)))
+    ap latestLine (sym (keyed-missing (bytes "latest=") (latest (a .earliest)) (a .s .now) (a .at) (a .line) (sym (b .begins-at .ensures) ∙ c .if1 .left)))
 
 pub latest-line-spec : {M : Type 1} → statement M
 latest-line-spec =

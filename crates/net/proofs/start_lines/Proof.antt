@@ -2,15 +2,15 @@
 use Prim.Native.Nat.{_+_, _-_}
 use mathlib.Core.Path.{_≡_, refl, sym, ap, _∙_}
 use borrow.Author.Needs.{needs}
+use Rattle.text.specs.Key.{bytes}
 use Rattle.form.proofs.Loops.{Reading, reading-done}
 use Rattle.form.specs.Code.{numbers}
 use Rattle.net.proofs.Read.{startLine, start-begins, start-stopped, start-more}
-use Rattle.net.specs.Keys.{startKey}
 use Rattle.net.proofs.start_lines.Statement.{statement}
 use Rattle.net.proofs.start_lines.Tie as tie
 
 abbrev Inv-loop : tie.InvT-loop
-Inv-loop s at places line items₀ to₀ i₀ t12 items to i = Reading startLine places 16 0 s at line items i to (line + i) × (t12 ≡ startKey)
+Inv-loop s at places line items₀ to₀ i₀ t12 items to i = Reading startLine places 16 0 s at line items i to (line + i) × (t12 ≡ bytes "start=")
 
 abbrev μ-loop : tie.MeasureT-loop
 μ-loop s at places line items₀ to₀ i₀ t12 items to i = places - i

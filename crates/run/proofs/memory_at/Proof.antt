@@ -2,15 +2,15 @@
 use mathlib.Core.Path.{refl, sym, _∙_}
 use native.Mathlib.Omega.{arith}
 use borrow.Author.Needs.{needs}
+use Rattle.text.specs.Key.{bytes}
 use Rattle.text.proofs.KeyLaws.{begins-split}
-use Rattle.run.specs.Keys.{intermediateLine, atomicLine}
 use Rattle.run.proofs.memory_at.Statement.{statement}
 use Rattle.run.proofs.memory_at.Tie as tie
 
 add-t10 : tie.Need-add-t10
 add-t10 c =
     let a = c .before .before .before .before .args in
-    omega (arith, begins-split intermediateLine (a .s .now) (a .at) (sym (c .before .begins-at .ensures) ∙ c .if1 .taken) .1)
+    omega (arith, begins-split (bytes "intermediate\n") (a .s .now) (a .at) (sym (c .before .begins-at .ensures) ∙ c .if1 .taken) .1)
 
 returns : tie.Need-returns
 returns c = rw (sym (c .before .begins-at .ensures) ∙ c .if1 .taken) refl
@@ -18,7 +18,7 @@ returns c = rw (sym (c .before .begins-at .ensures) ∙ c .if1 .taken) refl
 add-t15 : tie.Need-add-t15
 add-t15 c =
     let a = c .before .before .before .before .before .before .before .args in
-    omega (arith, begins-split atomicLine (a .s .now) (a .at) (sym (c .before .begins-at2 .ensures) ∙ c .if2 .taken) .1)
+    omega (arith, begins-split (bytes "atomic\n") (a .s .now) (a .at) (sym (c .before .begins-at2 .ensures) ∙ c .if2 .taken) .1)
 
 returns-2 : tie.Need-returns-2
 returns-2 c =

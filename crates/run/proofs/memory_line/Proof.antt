@@ -2,15 +2,15 @@
 use mathlib.Core.Path.{refl, sym, _∙_}
 use native.Mathlib.Omega.{arith}
 use borrow.Author.Needs.{needs}
+use Rattle.text.specs.Key.{bytes}
 use Rattle.text.proofs.KeyLaws.{begins-split}
-use Rattle.run.specs.Keys.{memoryKey}
 use Rattle.run.proofs.memory_line.Statement.{statement}
 use Rattle.run.proofs.memory_line.Tie as tie
 
 add-memory-at : tie.Need-add-memory-at
 add-memory-at c =
     let a = c .before .before .before .before .args in
-    omega (arith, begins-split memoryKey (a .s .now) (a .at) (sym (c .before .begins-at .ensures) ∙ c .if1 .taken) .1)
+    omega (arith, begins-split (bytes "memory=") (a .s .now) (a .at) (sym (c .before .begins-at .ensures) ∙ c .if1 .taken) .1)
 
 returns : tie.Need-returns
 returns c = c .memory-at .ensures ∙ rw (sym (c .before .before .begins-at .ensures) ∙ c .before .if1 .taken) refl

@@ -1,7 +1,7 @@
 -- The key is written first and the word of the rule behind it, where there is room for both.
 use borrow.Author.Needs.{needs}
 use Rattle.laws.specs.Room.{room-then, wrote-both}
-use Rattle.run.specs.Keys.{memoryKey}
+use Rattle.text.specs.Key.{bytes}
 use Rattle.run.specs.Run.{memoryText}
 use Rattle.run.proofs.put_memory_line.Statement.{statement}
 use Rattle.run.proofs.put_memory_line.Tie as tie
@@ -11,14 +11,14 @@ put-bytes-requires-2 c κs =
     let t = c .before .before in
     let k = t .before .before .before .before in
     let b = k .before .before .before .before in
-    rw (t .enum-told .given .1) at (room-then (b .args .out .now) (b .args .at) memoryKey (memoryText (b .args .m)) (b .pre) (k .put-bytes .result) (k .put-bytes .last .0) (k .put-bytes .ensures))
+    rw (t .enum-told .given .1) at (room-then (b .args .out .now) (b .args .at) (bytes "memory=") (memoryText (b .args .m)) (b .pre) (k .put-bytes .result) (k .put-bytes .last .0) (k .put-bytes .ensures))
 
 put-bytes-requires-3 : tie.Need-put-bytes-requires-3
 put-bytes-requires-3 c κs =
     let t = c .before .before in
     let k = t .before .before .before .before in
     let b = k .before .before .before .before in
-    rw (t .enum-told2 .given .1) at (room-then (b .args .out .now) (b .args .at) memoryKey (memoryText (b .args .m)) (b .pre) (k .put-bytes .result) (k .put-bytes .last .0) (k .put-bytes .ensures))
+    rw (t .enum-told2 .given .1) at (room-then (b .args .out .now) (b .args .at) (bytes "memory=") (memoryText (b .args .m)) (b .pre) (k .put-bytes .result) (k .put-bytes .last .0) (k .put-bytes .ensures))
 
 returns : tie.Need-returns
 returns c =
@@ -26,7 +26,7 @@ returns c =
     let t = w .before .before .before in
     let k = t .before .before .before .before in
     let b = k .before .before .before .before in
-    wrote-both (b .args .out .now) (b .args .at) memoryKey (memoryText (b .args .m)) (b .pre) (k .put-bytes .result) (k .put-bytes .last .0) (k .put-bytes .ensures)
+    wrote-both (b .args .out .now) (b .args .at) (bytes "memory=") (memoryText (b .args .m)) (b .pre) (k .put-bytes .result) (k .put-bytes .last .0) (k .put-bytes .ensures)
     (w .put-bytes2 .result) (w .put-bytes2 .last .0) (rw (t .enum-told .given .1) (w .put-bytes2 .ensures))
 
 returns-2 : tie.Need-returns-2
@@ -35,7 +35,7 @@ returns-2 c =
     let t = w .before .before .before in
     let k = t .before .before .before .before in
     let b = k .before .before .before .before in
-    wrote-both (b .args .out .now) (b .args .at) memoryKey (memoryText (b .args .m)) (b .pre) (k .put-bytes .result) (k .put-bytes .last .0) (k .put-bytes .ensures)
+    wrote-both (b .args .out .now) (b .args .at) (bytes "memory=") (memoryText (b .args .m)) (b .pre) (k .put-bytes .result) (k .put-bytes .last .0) (k .put-bytes .ensures)
     (w .put-bytes3 .result) (w .put-bytes3 .last .0) (rw (t .enum-told2 .given .1) (w .put-bytes3 .ensures))
 
 pub put-memory-line-spec : {M : Type 1} → statement M
