@@ -11,14 +11,14 @@ use Rattle.reply.specs.declared.Refusal.{Refusal}
 use Rattle.form.specs.declared.LineRead.{LineRead}
 use Rattle.form.specs.declared.LineRead.the-variants.{Next, Stopped}
 use Rattle.form.specs.Form.{Found, found, refused, Form, alone}
-use Rattle.form.specs.Inverse.{Reaches}
+use Rattle.form.specs.Inverse.{Format}
 use Rattle.form.specs.Code.{lineRead, valueOr}
 use Rattle.form.proofs.Answers.{line-found, line-stopped}
 use Rattle.form.proofs.Card.{alone-found}
 use Rattle.net.specs.declared.NetRead.{NetRead}
 use Rattle.net.specs.Net.{netCard}
 use Rattle.net.specs.Code.{netRead}
-use Rattle.net.proofs.Card.{netReach, net-reaches}
+use Rattle.net.proofs.Card.{netReach, net-inverse, net-reaches, net-transitions}
 use Rattle.net.proofs.Read.{card-read}
 use Rattle.cards.specs.Cards.{bothCards}
 
@@ -42,8 +42,9 @@ module _ {A : Type 0} (card : ℕ → Form A) (s : List ℕ) {t : NetRead} (p : 
         pub both-read : found (t .net, a) (next + end) ≡ bothCards card s
         both-read = rw (card-read s t p e, sym same-part ∙ line-found behind d a read q v e′)
 
-        pub both-near : {reach : ℕ} → Reaches (card (t .net .transitions)) reach → next + end ≤ netReach + reach
+        pub both-near : {reach most : ℕ} → Format (t .net .transitions ≤ 32) (card (t .net .transitions)) reach most → next + end ≤ netReach + reach
         both-near w =
+            let few = net-transitions (t .net) (net-inverse .written-read (t .net) s 0 next 1 (card-read s t p e) .passed) .1 in
             let part = take (length s - next) (drop next s) in
             let there = alone-found (card (t .net .transitions)) part (line-found behind d a read q v e′) in
-            omega (arith, net-reaches .near (t .net) s 0 next 1 (card-read s t p e), w .near a part 0 end 1 (there .0))
+            omega (arith, net-reaches .near (t .net) s 0 next 1 (card-read s t p e), w .reaches few .near a part 0 end 1 (there .0))

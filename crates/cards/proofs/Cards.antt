@@ -10,7 +10,6 @@ use Rattle.reply.specs.declared.Checked.the-variants.{Passed}
 use Rattle.reply.specs.Respond.{answer}
 use Rattle.form.specs.declared.LineRead.the-variants.{Next, Stopped}
 use Rattle.form.specs.Form.{found, refused}
-use Rattle.form.specs.Inverse.{Inverse}
 use Rattle.form.proofs.Answers.{line-found, line-stopped}
 use Rattle.form.proofs.Found.{also-first, also-second}
 use Rattle.net.specs.declared.Net.{Net}
@@ -21,7 +20,7 @@ use Rattle.run.specs.declared.Run.{Run}
 use Rattle.run.specs.declared.Order.{Order}
 use Rattle.run.specs.Run.{runCard, orderCard}
 use Rattle.run.specs.Code.{noRun, noOrder}
-use Rattle.run.proofs.Card.{runReach, orderReach, run-inverse, run-settled, run-reaches, order-inverse, order-settled, order-reaches}
+use Rattle.run.proofs.Card.{runReach, orderReach, run-format, order-format}
 use Rattle.run.proofs.Check.{run-count-within, order-count-within}
 use Rattle.cards.specs.declared.RunInput.{RunInput}
 use Rattle.cards.specs.declared.OrderInput.{OrderInput}
@@ -29,30 +28,27 @@ use Rattle.cards.specs.Cards.{readRun, readOrder, runCards, orderCards, 
 use Rattle.cards.proofs.OnNet.{card-read-back, card-written-again, card-passes-exactly, card-short, both-prefix, both-passed}
 
 module _ (net : Net) where
-  card-run-inverse : netCard .check net 1 ≡ Passed → Inverse (runCard (net .transitions))
-  card-run-inverse p = run-inverse (net .transitions) (net-transitions net p .1)
-
-  card-order-inverse : netCard .check net 1 ≡ Passed → Inverse (orderCard (net .transitions))
-  card-order-inverse p = order-inverse (net .transitions) (net-transitions net p .1)
+  few : netCard .check net 1 ≡ Passed → net .transitions ≤ 32
+  few p = net-transitions net p .1
 
   -- what was written is read back, up to the slots past the count
   pub run-read-back : (r : Run) (bytes : List ℕ) → runText net r ≡ answer bytes → readRun net bytes ≡ found (runCard (net .transitions) .clean r) (length bytes)
-  run-read-back = card-read-back (netCard .check net 1) (runCard (net .transitions)) card-run-inverse
+  run-read-back = card-read-back (netCard .check net 1) (runCard (net .transitions)) few (run-format (net .transitions))
 
   pub order-read-back : (o : Order) (bytes : List ℕ) → orderText net o ≡ answer bytes → readOrder net bytes ≡ found (orderCard (net .transitions) .clean o) (length bytes)
-  order-read-back = card-read-back (netCard .check net 1) (orderCard (net .transitions)) card-order-inverse
+  order-read-back = card-read-back (netCard .check net 1) (orderCard (net .transitions)) few (order-format (net .transitions))
 
   -- what was read and is written again gives its bytes back
   pub run-written-again : {r : Run} {next : ℕ} (s : List ℕ) → readRun net s ≡ found r next → runText net r ≡ answer s
-  run-written-again = card-written-again (netCard .check net 1) (runCard (net .transitions)) card-run-inverse
+  run-written-again = card-written-again (netCard .check net 1) (runCard (net .transitions)) few (run-format (net .transitions))
 
   pub order-written-again : {o : Order} {next : ℕ} (s : List ℕ) → readOrder net s ≡ found o next → orderText net o ≡ answer s
-  order-written-again = card-written-again (netCard .check net 1) (orderCard (net .transitions)) card-order-inverse
+  order-written-again = card-written-again (netCard .check net 1) (orderCard (net .transitions)) few (order-format (net .transitions))
 
   -- the check lets pass exactly what is read back
   pub run-passes-exactly : (r : Run) → (runChecked net r ≡ Passed)
       ↔ (readRun net (runCard (net .transitions) .text r) ≡ found (runCard (net .transitions) .clean r) (length (runCard (net .transitions) .text r)))
-  run-passes-exactly = card-passes-exactly (netCard .check net 1) (runCard (net .transitions)) card-run-inverse (run-settled (net .transitions))
+  run-passes-exactly = card-passes-exactly (netCard .check net 1) (runCard (net .transitions)) few (run-format (net .transitions))
 
   -- a run with nothing in the slots past its count is read back as it is
   pub run-reads-itself : (r : Run) → runChecked net r ≡ Passed → runCard (net .transitions) .clean r ≡ r
@@ -61,13 +57,13 @@ module _ (net : Net) where
 
   pub order-passes-exactly : (o : Order) → (orderChecked net o ≡ Passed)
       ↔ (readOrder net (orderCard (net .transitions) .text o) ≡ found (orderCard (net .transitions) .clean o) (length (orderCard (net .transitions) .text o)))
-  order-passes-exactly = card-passes-exactly (netCard .check net 1) (orderCard (net .transitions)) card-order-inverse (order-settled (net .transitions))
+  order-passes-exactly = card-passes-exactly (netCard .check net 1) (orderCard (net .transitions)) few (order-format (net .transitions))
 
   pub run-short : (r : Run) → runChecked net r ≡ Passed → length (runCard (net .transitions) .text r) ≤ runReach
-  run-short = card-short (netCard .check net 1) (runCard (net .transitions)) card-run-inverse (run-reaches (net .transitions))
+  run-short = card-short (netCard .check net 1) (runCard (net .transitions)) few (run-format (net .transitions))
 
   pub order-short : (o : Order) → orderChecked net o ≡ Passed → length (orderCard (net .transitions) .text o) ≤ orderReach
-  order-short = card-short (netCard .check net 1) (orderCard (net .transitions)) card-order-inverse (order-reaches (net .transitions))
+  order-short = card-short (netCard .check net 1) (orderCard (net .transitions)) few (order-format (net .transitions))
 
   -- the counts of a run and of an order of a net that pass
   pub run-counts : (r : Run) → runChecked net r ≡ Passed → (net .places ≤ 16) × (net .transitions ≤ 32) × (r .count ≤ 64)
@@ -89,17 +85,17 @@ module _ (net : Net) where
 
 -- a program whose buffer holds the first k bytes loses nothing
 pub run-cards-prefix : (s : List ℕ) (k : ℕ) → netReach + runReach < k → runCards (take k s) ≡ runCards s
-run-cards-prefix = both-prefix runCard run-reaches
+run-cards-prefix = both-prefix runCard run-format
 
 pub order-cards-prefix : (s : List ℕ) (k : ℕ) → netReach + orderReach < k → orderCards (take k s) ≡ orderCards s
-order-cards-prefix = both-prefix orderCard order-reaches
+order-cards-prefix = both-prefix orderCard order-format
 
 -- what was read passes its check
 pub run-cards-passed : (s : List ℕ) {net : Net} {r : Run} {end : ℕ} → runCards s ≡ found (net, r) end → runChecked net r ≡ Passed
-run-cards-passed = both-passed runCard run-inverse
+run-cards-passed = both-passed runCard run-format
 
 pub order-cards-passed : (s : List ℕ) {net : Net} {o : Order} {end : ℕ} → orderCards s ≡ found (net, o) end → orderChecked net o ≡ Passed
-order-cards-passed = both-passed orderCard order-inverse
+order-cards-passed = both-passed orderCard order-format
 
 -- what an input that was read says of its cards
 module _ (s : List ℕ) {i : RunInput} (is : i ≡ runInput (runCards s)) where

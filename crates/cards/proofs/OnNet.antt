@@ -10,7 +10,7 @@ use Rattle.reply.specs.declared.Checked.{Checked}
 use Rattle.reply.specs.declared.Checked.the-variants.{Passed, Refused}
 use Rattle.reply.specs.Respond.{answer}
 use Rattle.form.specs.Form.{Found, found, also, Form, alone}
-use Rattle.form.specs.Inverse.{Inverse, Settled, Reaches}
+use Rattle.form.specs.Inverse.{Format}
 use Rattle.form.proofs.Found.{not-both, found-value, then-found, then-same, also-first, also-second}
 use Rattle.form.proofs.Card.{text-short, alone-read-back, alone-written-again, alone-passes-exactly, alone-prefix}
 use Rattle.net.specs.declared.Net.{Net}
@@ -24,43 +24,47 @@ on-net-found Passed m e = (refl, e)
 on-net-found (Refused r) m e = absurd (not-both e)
 
 -- c is the check of the net
-module _ {A : Type 0} (c : Checked) (f : Form A) (i : c ≡ Passed → Inverse f) where
+module _ {A : Type 0} (c : Checked) (f : Form A) {P : Type 0} {reach most : ℕ} (few : c ≡ Passed → P) (w : Format P f reach most) where
   pub card-read-back : (a : A) (bytes : List ℕ) → writtenIf (also c (f .check a 1)) (f .text a) ≡ answer bytes → onNet c (alone f bytes) ≡ found (f .clean a) (length bytes)
   card-read-back a bytes e =
-      let w = written-answer (also c (f .check a 1)) (f .text a) e in
-      let p = also-first c (f .check a 1) (w .0) in
-      let back = alone-read-back (i p) a (also-second c (f .check a 1) (w .0)) in
-      rw p (subst (λ (t : List ℕ). alone f t ≡ found (f .clean a) (length t)) (w .1) back)
+      let h = written-answer (also c (f .check a 1)) (f .text a) e in
+      let p = also-first c (f .check a 1) (h .0) in
+      let back = alone-read-back (w .inverse (few p)) a (also-second c (f .check a 1) (h .0)) in
+      rw p (subst (λ (t : List ℕ). alone f t ≡ found (f .clean a) (length t)) (h .1) back)
 
   pub card-written-again : {a : A} {next : ℕ} (s : List ℕ) → onNet c (alone f s) ≡ found a next → writtenIf (also c (f .check a 1)) (f .text a) ≡ answer s
   card-written-again s e =
       let h = on-net-found c (alone f s) e in
-      let w = alone-written-again (i (h .0)) s (h .1) in
-      rw (h .0, w .passed) (ap answer (sym (w .bytes)))
+      let u = alone-written-again (w .inverse (few (h .0))) s (h .1) in
+      rw (h .0, u .passed) (ap answer (sym (u .bytes)))
 
-  pub card-passes-exactly : Settled f → (a : A) → (also c (f .check a 1) ≡ Passed) ↔ (onNet c (alone f (f .text a)) ≡ found (f .clean a) (length (f .text a)))
-  card-passes-exactly w a = (
-    λ p. let q = also-first c (f .check a 1) p in rw q (alone-read-back (i q) a (also-second c (f .check a 1) p)),
-    λ e. let h = on-net-found c (alone f (f .text a)) e in rw (h .0) (alone-passes-exactly (i (h .0)) w a .1 (h .1)),
+  pub card-passes-exactly : (a : A) → (also c (f .check a 1) ≡ Passed) ↔ (onNet c (alone f (f .text a)) ≡ found (f .clean a) (length (f .text a)))
+  card-passes-exactly a = (
+    λ p. let q = also-first c (f .check a 1) p in rw q (alone-read-back (w .inverse (few q)) a (also-second c (f .check a 1) p)),
+    λ e. let h = on-net-found c (alone f (f .text a)) e in rw (h .0) (alone-passes-exactly (w .inverse (few (h .0))) (w .settled) a .1 (h .1)),
   )
 
-  pub card-short : {reach : ℕ} → Reaches f reach → (a : A) → also c (f .check a 1) ≡ Passed → length (f .text a) ≤ reach
-  card-short w a p = text-short (i (also-first c (f .check a 1) p)) w a (also-second c (f .check a 1) p)
+  pub card-short : (a : A) → also c (f .check a 1) ≡ Passed → length (f .text a) ≤ reach
+  card-short a p =
+      let h = few (also-first c (f .check a 1) p) in
+      text-short (w .inverse h) (w .reaches h) a (also-second c (f .check a 1) p)
 
 -- a reading of both cards looks at as much as the two readings together
-pub both-prefix : {A : Type 0} (f : ℕ → Form A) {reach : ℕ} → ((transitions : ℕ) → Reaches (f transitions) reach) → (s : List ℕ) (k : ℕ) → netReach + reach < k
-    → bothCards f (take k s) ≡ bothCards f s
+pub both-prefix : {A : Type 0} (f : ℕ → Form A) {reach most : ℕ} → ((transitions : ℕ) → Format (transitions ≤ 32) (f transitions) reach most) → (s : List ℕ) (k : ℕ)
+    → netReach + reach < k → bothCards f (take k s) ≡ bothCards f s
 both-prefix f w s k h =
     rw (net-prefix s k (omega arith))
     (then-same (netCard .read s 0 1) _ _ (λ net next e.
-    rw (drop-take next k s, alone-prefix (w (net .transitions)) (drop next s) (k - next) (omega (arith, net-reaches .near net s 0 next 1 e))) refl))
+    let few = net-transitions net (net-inverse .written-read net s 0 next 1 e .passed) .1 in
+    rw (drop-take next k s, alone-prefix (w (net .transitions) .reaches few) (drop next s) (k - next) (omega (arith, net-reaches .near net s 0 next 1 e))) refl))
 
 -- a net and a value of it that were read pass their checks
-pub both-passed : {A : Type 0} (f : ℕ → Form A) → ((transitions : ℕ) → transitions ≤ 32 → Inverse (f transitions)) → (s : List ℕ) {net : Net} {a : A} {end : ℕ}
+pub both-passed : {A : Type 0} (f : ℕ → Form A) {reach most : ℕ} → ((transitions : ℕ) → Format (transitions ≤ 32) (f transitions) reach most)
+    → (s : List ℕ) {net : Net} {a : A} {end : ℕ}
     → bothCards f s ≡ found (net, a) end → also (netCard .check net 1) (f (net .transitions) .check a 1) ≡ Passed
-both-passed {A} f i s {net} {a} e =
+both-passed {A} f w s {net} {a} e =
     let u = then-found (netCard .read s 0 1) _ e in
     let v = then-found (alone (f (u .value .transitions)) (drop (u .place) s)) _ (u .then) in
     let p = net-inverse .written-read (u .value) s 0 (u .place) 1 (u .first) .passed in
-    let q = alone-written-again (i (u .value .transitions) (net-transitions (u .value) p .1)) (drop (u .place) s) (v .first) .passed in
+    let q = alone-written-again (w (u .value .transitions) .inverse (net-transitions (u .value) p .1)) (drop (u .place) s) (v .first) .passed in
     subst (λ (x : Net × A). also (netCard .check (x .0) 1) (f (x .0 .transitions) .check (x .1) 1) ≡ Passed) (found-value (v .then)) (rw p q)

@@ -6,26 +6,27 @@ use mathlib.Core.List.{List}
 use lib.ListN.{drop}
 use Rattle.reply.specs.declared.Refusal.{Refusal}
 use Rattle.form.specs.Form.{refused, Form, alone}
-use Rattle.form.specs.Inverse.{Among, Placed}
+use Rattle.form.specs.Inverse.{Among, Format}
 use Rattle.form.proofs.Found.{not-both, then-refused}
 use Rattle.form.proofs.Places.{among-more, alone-placed}
 use Rattle.net.specs.Net.{netCard}
-use Rattle.net.proofs.Places.{net-placed}
+use Rattle.net.proofs.Card.{net-inverse, net-placed, net-transitions}
 use Rattle.run.specs.Run.{runCard, orderCard}
-use Rattle.run.proofs.Places.{run-placed, order-placed}
+use Rattle.run.proofs.Card.{run-format, order-format}
 use Rattle.cards.specs.Cards.{bothCards, runCards, orderCards}
 
-both-placed : {A : Type 0} (card : ℕ → Form A) {n : ℕ} → ((transitions : ℕ) → Placed (card transitions) n) → n ≤ 145 → (s : List ℕ) {r : Refusal}
+both-placed : {A : Type 0} (card : ℕ → Form A) {reach n : ℕ} → ((transitions : ℕ) → Format (transitions ≤ 32) (card transitions) reach n) → n ≤ 145 → (s : List ℕ) {r : Refusal}
     → bothCards card s ≡ refused r → Among 1 146 r
 both-placed card w h s {r} =
     then-refused (netCard .read s 0 1) _ (net-placed .named r s 0 1)
     (λ net next e.
+    let few = net-transitions net (net-inverse .written-read net s 0 next 1 e .passed) .1 in
     then-refused (alone (card (net .transitions)) (drop next s)) _
-    (λ q. among-more (omega arith) (alone-placed (card (net .transitions)) (w (net .transitions)) (drop next s) q))
+    (λ q. among-more (omega arith) (alone-placed (card (net .transitions)) (w (net .transitions) .placed few) (drop next s) q))
     (λ a end p q. absurd (not-both (sym q))))
 
 pub run-cards-placed : (s : List ℕ) {r : Refusal} → runCards s ≡ refused r → Among 1 146 r
-run-cards-placed = both-placed runCard run-placed (omega arith)
+run-cards-placed = both-placed runCard run-format (omega arith)
 
 pub order-cards-placed : (s : List ℕ) {r : Refusal} → orderCards s ≡ refused r → Among 1 146 r
-order-cards-placed = both-placed orderCard order-placed (omega arith)
+order-cards-placed = both-placed orderCard order-format (omega arith)

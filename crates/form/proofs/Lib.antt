@@ -1,6 +1,7 @@
 pub mod Answers
 pub mod Card
 pub mod Combine
+pub mod Format
 pub mod Found
 pub mod Items
 pub mod Lines

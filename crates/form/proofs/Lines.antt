@@ -26,7 +26,7 @@ use Rattle.form.specs.Form.{found, Form, keyed}
 use Rattle.form.specs.Line.{formed, ranged, listed, number, itemsText, itemsAt, allRanged, itemsRanged, items}
 use Rattle.form.specs.Inverse.{WasRead, Inverse, Settled, Reaches}
 use Rattle.form.proofs.Found.{not-both, found-value, found-place, then-found, then-same, judged-passed, judged-found, test-passed}
-use Rattle.form.proofs.Combine.{was-same, keyed-inverse, keyed-settled, keyed-reaches}
+use Rattle.form.proofs.Combine.{was-same, keyed-inverse}
 
 pub formed-value : (line : ℕ) (r : NumberRead) {n next : ℕ} → formed line r ≡ found n next → r ≡ Value n next
 formed-value line (Value m end) e = cc
@@ -195,20 +195,12 @@ module _ (k size low high : ℕ) where
         prefix = λ s n at line h. rw (items-prefix k s n at line h) refl;
       }
 
--- a key with a number of a range behind it
-module _ (key : List ℕ) (low high : ℕ) (h : high < 10 ^ 9) where
-  pub ranged-inverse : Inverse (keyed key (number (ranged low high)))
-  ranged-inverse = keyed-inverse key (number (ranged low high)) (number-inverse (ranged low high) (ranged-small low high h))
-
-  -- what was read there lies in the range
-  pub ranged-read : (n : ℕ) (s : List ℕ) (at next line : ℕ) → keyed key (number (ranged low high)) .read s at line ≡ found n next → (low ≤ n) × (n ≤ high)
-  ranged-read n s at next line e = ranged-within low high n line (ranged-inverse .written-read n s at next line e .passed)
-
-pub ranged-settled : (key : List ℕ) (low high : ℕ) → Settled (keyed key (number (ranged low high)))
-ranged-settled key low high = keyed-settled key (number (ranged low high)) (number-settled (ranged low high))
-
-pub number-line-reaches : (key : List ℕ) (judge : ℕ → ℕ → Checked) → Reaches (keyed key (number judge)) (length key + 10)
-number-line-reaches key judge = keyed-reaches key (number judge) (number-reaches judge)
+-- what was read behind a key lies in its range
+pub ranged-read : (key : List ℕ) (low high : ℕ) → high < 10 ^ 9 → (n : ℕ) (s : List ℕ) (at next line : ℕ) → keyed key (number (ranged low high)) .read s at line ≡ found n next
+    → (low ≤ n) × (n ≤ high)
+ranged-read key low high h n s at next line e =
+    let i = keyed-inverse key (number (ranged low high)) (number-inverse (ranged low high) (ranged-small low high h)) in
+    ranged-within low high n line (i .written-read n s at next line e .passed)
 
 -- a value whose text is a word of its own, where the word stands
 pub word-was : {A : Type 0} (f : Form A) (a : A) (s : List ℕ) (at line : ℕ) → f .check a line ≡ Passed → f .clean a ≡ a → beginsWith (f .text a) (drop at s) ≡ true

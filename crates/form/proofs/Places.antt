@@ -54,7 +54,7 @@ formed-own line NoNumber e = ap positionOf (sym (refused-same e))
 abbrev pub OwnLine : {A : Type 0} → (A → ℕ → Checked) → Type 0
 OwnLine {A} judge = (a : A) (line : ℕ) (r : Refusal) → judge a line ≡ Refused r → positionOf r ≡ line
 
-ranged-own : (low high : ℕ) → OwnLine (ranged low high)
+pub ranged-own : (low high : ℕ) → OwnLine (ranged low high)
 ranged-own low high n line r e = ap positionOf (sym (test-refused (leb low n && leb n high) (OutOfRange line) e))
 
 pub listed-own : (transitions : ℕ) → OwnLine (listed transitions)
@@ -104,13 +104,6 @@ module _ (key : List ℕ) {A : Type 0} {f : Form A} {n : ℕ} where
           → f .lines a ≤ n
       many a s at next line true e = w .few a s (at + length key) next line e
       many a s at next line false e = absurd (not-both e)
-
--- a key and a number
-pub number-line-placed : (key : List ℕ) (judge : ℕ → ℕ → Checked) → OwnLine judge → Placed (keyed key (number judge)) 1
-number-line-placed key judge own = keyed-placed key (omega arith) (number-placed judge own)
-
-pub ranged-placed : (key : List ℕ) (low high : ℕ) → Placed (keyed key (number (ranged low high))) 1
-ranged-placed key low high = number-line-placed key (ranged low high) (ranged-own low high)
 
 -- a refusal behind lines that were read
 behind : {line lines n m : ℕ} {r : Refusal} → lines ≤ n → Among (line + lines) m r → Among line (n + m) r

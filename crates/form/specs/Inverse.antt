@@ -42,3 +42,10 @@ pub record Among (line n : ℕ) (r : Refusal) : Type 0 where
 pub record Placed {A : Type 0} (f : Form A) (n : ℕ) : Type 0 where
   pub named : (r : Refusal) (s : List ℕ) (at line : ℕ) → f .read s at line ≡ refused r → Among line n r
   pub few : (a : A) (s : List ℕ) (at next line : ℕ) → f .read s at line ≡ found a next → f .lines a ≤ n
+
+-- all of these laws: P says that the counts which the form was made for lie in their ranges. The text of a value needs no such thing
+pub record Format {A : Type 0} (P : Type 0) (f : Form A) (reach most : ℕ) : Type 0 where
+  pub settled : Settled f
+  pub inverse : P → Inverse f
+  pub reaches : P → Reaches f reach
+  pub placed : P → Placed f most

@@ -2,18 +2,20 @@
 -- like the word for no upper bound, since the word's first byte is no digit.
 use Prim.Native.Nat.{ℕ, _+_, _≤_, _<_}
 use native.Mathlib.Omega.{arith}
-use mathlib.Core.Path.{_≡_, refl, ap, subst, _∙_}
-use mathlib.Core.Bool.{Bool, true, false, cond}
+use mathlib.Core.Path.{_≡_, refl, sym, ap, subst, _∙_}
+use mathlib.Core.Bool.{Bool, true, false, cond, _&&_}
 use mathlib.Core.Logic.{_↔_}
 use mathlib.Core.List.{List, _++_}
 use lib.ListN.{length, getD, take, drop}
 use lib.Seq.{take-at}
-use lib.Dec.{lit<, ltb}
+use lib.Dec.{lit<, leb, ltb}
 use Rattle.laws.specs.EachAt.{each-at}
 use Rattle.laws.specs.Slots.{firstOf, length-first, getD-first}
-use Rattle.reply.specs.declared.Refusal.the-variants.{LatestBelowEarliest}
+use Rattle.reply.specs.declared.Refusal.{Refusal}
+use Rattle.reply.specs.declared.Refusal.the-variants.{OutOfRange, LatestBelowEarliest}
 use Rattle.reply.specs.declared.Checked.{Checked}
 use Rattle.reply.specs.declared.Checked.the-variants.{Passed, Refused}
+use Rattle.reply.specs.Refusal.{positionOf}
 use Rattle.reply.specs.Respond.{answer}
 use Rattle.text.specs.declared.NumberRead.the-variants.{Value, NoNumber}
 use Rattle.text.specs.Key.{bytes, beginsWith}
@@ -21,18 +23,20 @@ use Rattle.text.specs.Number.{digitsOf, fieldAt}
 use Rattle.text.specs.Decimal.{field}
 use Rattle.text.proofs.KeyLaws.{begins-text, begins-split, begins-take}
 use Rattle.text.proofs.NumberLaws.{field-text, field-split, field-near, field-take}
-use Rattle.form.specs.Form.{found, andThen, judged, keyed, chain}
-use Rattle.form.specs.Line.{formed, ranged, number, itemsRanged, items}
-use Rattle.form.specs.Inverse.{WasRead, Inverse, Settled, Reaches}
-use Rattle.form.proofs.Found.{found-place, then-found, also-first, also-second, checks-each, judged-passed, judged-found}
-use Rattle.form.proofs.Combine.{was-same, reaches-more, keyed-inverse, keyed-settled, keyed-reaches, chain-inverse, chain-settled, chain-reaches, held-inverse, held-settled, held-reaches, times-inverse, times-settled, times-reaches}
-use Rattle.form.proofs.Lines.{formed-value, ranged-within, ranged-small, items-within, items-inverse, items-settled, items-reaches, ranged-inverse, ranged-read, ranged-settled, number-line-reaches, word-was}
+use Rattle.form.specs.Form.{found, refused, andThen, judged, also, keyed}
+use Rattle.form.specs.Line.{formed, ranged, number, itemsRanged}
+use Rattle.form.specs.Inverse.{WasRead, Inverse, Settled, Reaches, Placed, Format}
+use Rattle.form.proofs.Found.{not-both, found-place, then-found, also-first, also-second, checks-each, judged-passed, judged-found}
+use Rattle.form.proofs.Combine.{was-same}
+use Rattle.form.proofs.Lines.{formed-value, ranged-within, ranged-small, items-within, word-was}
+use Rattle.form.proofs.Places.{OwnLine, line-placed, field-own}
+use Rattle.form.proofs.Format.{format-under, keyed-format, pair-format, held-format, times-format, ranged-format, items-format, counted-format}
 use Rattle.form.proofs.Card.{read-back, written-again, passes-exactly, text-short}
 use Rattle.net.specs.declared.Latest.{Latest}
 use Rattle.net.specs.declared.Latest.the-variants.{Unbounded, Ticks}
 use Rattle.net.specs.declared.Transition.{Transition}
 use Rattle.net.specs.declared.Net.{Net}
-use Rattle.net.specs.Net.{latestChecked, latest, weights, toTransition, fromTransition, transition, noTransition, starts, table, body, toNet, fromNet, netCard}
+use Rattle.net.specs.Net.{latestChecked, latest, weights, toTransition, fromTransition, transition, noTransition, starts, body, toNet, fromNet, netCard}
 use Rattle.net.specs.Code.{writtenIf, netText}
 
 -- where the word stands there is no number
@@ -74,12 +78,6 @@ module _ (earliest : ℕ) where
       go true t e = was-same (latest earliest) e (word-was (latest earliest) Unbounded s at line refl refl t)
       go false t e = ticks-was l s at next line e
 
-  pub latest-inverse : Inverse (latest earliest)
-  latest-inverse = record { read-written = latest-back; written-read = latest-was }
-
-  pub latest-settled : Settled (latest earliest)
-  latest-settled = record { same-text = λ l. refl; same-lines = λ l. refl; same-check = λ l line. refl }
-
   latest-near : (l : Latest) (s : List ℕ) (at next line : ℕ) → latest earliest .read s at line ≡ found l next → next ≤ at + 10
   latest-near l s at next line = go (beginsWith (bytes "inf\n") (drop at s))
     where
@@ -91,136 +89,75 @@ module _ (earliest : ℕ) where
           let h = field-near (u .value) at (u .place) true s (formed-value line (fieldAt s at true) (u .first)) in
           omega (arith, h .0, found-place (judged-found (latestChecked earliest (Ticks (u .value)) line) _ (u .place) (u .then)))
 
-  pub latest-reaches : Reaches (latest earliest) 10
-  latest-reaches =
+  latest-own : OwnLine (latestChecked earliest)
+  latest-own Unbounded line r = λ e. let z : _≡_ {A = ℕ} 0 1 = cc in absurd (omega arith)
+  latest-own (Ticks n) line r = go (leb 0 n && leb n 1000) (ltb n earliest)
+    where
+      go : (a b : Bool) → also (cond a Passed (Refused (OutOfRange line))) (cond b (Refused (LatestBelowEarliest line)) Passed) ≡ Refused r
+          → positionOf r ≡ line
+      go true true e = let same : r ≡ LatestBelowEarliest line = cc in ap positionOf same
+      go true false e = let z : _≡_ {A = ℕ} 0 1 = cc in absurd (omega arith)
+      go false b e = let same : r ≡ OutOfRange line = cc in ap positionOf same
+
+  latest-placed : Placed (latest earliest) 1
+  latest-placed = line-placed (λ r s at line. go r s at line (beginsWith (bytes "inf\n") (drop at s))) (λ l. refl)
+    where
+      go : (r : Refusal) (s : List ℕ) (at line : ℕ) (t : Bool)
+          → cond t (found Unbounded (at + length (bytes "inf\n")))
+          (andThen (formed line (fieldAt s at true)) (λ n to. judged (latestChecked earliest (Ticks n) line) (Ticks n) to)) ≡ refused r → positionOf r ≡ line
+      go r s at line true e = absurd (not-both (sym e))
+      go r s at line false e = field-own (latestChecked earliest) Ticks latest-own line (fieldAt s at true) e
+
+  latest-format : {P : Type 0} → Format P (latest earliest) 10 1
+  latest-format =
       record {
-        near = latest-near;
-        prefix = λ s k at line h. rw (begins-take (bytes "inf\n") s k at (omega arith), field-take k at true s h) refl;
+        settled = record { same-text = λ l. refl; same-lines = λ l. refl; same-check = λ l line. refl };
+        inverse = λ p. record { read-written = latest-back; written-read = latest-was };
+        reaches = λ p.
+            record {
+              near = latest-near;
+              prefix = λ s k at line h. rw (begins-take (bytes "inf\n") s k at (omega arith), field-take k at true s h) refl;
+            };
+        placed = λ p. latest-placed;
       }
 
--- the lines of a transition
-module _ (places : ℕ) where
-  weights-inverse : Inverse (weights places)
-  weights-inverse =
-      let i = items-inverse places 16 0 255 (lit< tt) in
-      chain-inverse _ _ (λ l. refl)
-      (keyed-inverse (bytes "take=") _ i)
-      (keyed-settled (bytes "take=") _ (items-settled places 16 0 255))
-      (λ l line p. keyed-inverse (bytes "give=") _ i)
+-- ---- the lines put together
+weights-format : (places : ℕ) → Format (places ≤ 16) (weights places) 330 2
+weights-format places = pair-format (items-format (bytes "take=") places 16 0 255 (lit< tt) (λ h. h)) (items-format (bytes "give=") places 16 0 255 (lit< tt) (λ h. h))
 
-  weights-settled : Settled (weights places)
-  weights-settled =
-      let w = items-settled places 16 0 255 in
-      chain-settled _ _ (λ l. refl)
-      (keyed-settled (bytes "take=") _ w)
-      (λ l. keyed-settled (bytes "give=") _ w)
+transition-format : (places : ℕ) → Format (places ≤ 16) (transition places) 366 4
+transition-format places =
+    held-format toTransition fromTransition (λ v. refl)
+    (counted-format (bytes "earliest=") 0 1000 (lit< tt) (λ n. pair-format (keyed-format (bytes "latest=") (latest-format n)) (weights-format places)) (λ n l h. h))
 
-  weights-reaches : places ≤ 16 → Reaches (weights places) 330
-  weights-reaches h =
-      let w : Reaches (items places 16 0 255) 160 = reaches-more (omega arith) (items-reaches places 16 0 255) in
-      chain-reaches _ _
-      (keyed-reaches (bytes "take=") _ w)
-      (λ l s at next line e. keyed-reaches (bytes "give=") _ w)
-
-  interval-inverse : (earliest : ℕ) → Inverse (chain (keyed (bytes "latest=") (latest earliest)) (λ _. weights places))
-  interval-inverse earliest =
-      chain-inverse _ _ (λ l. refl)
-      (keyed-inverse (bytes "latest=") _ (latest-inverse earliest))
-      (keyed-settled (bytes "latest=") _ (latest-settled earliest))
-      (λ l line p. weights-inverse)
-
-  interval-settled : (earliest : ℕ) → Settled (chain (keyed (bytes "latest=") (latest earliest)) (λ _. weights places))
-  interval-settled earliest =
-      chain-settled _ _ (λ l. refl)
-      (keyed-settled (bytes "latest=") _ (latest-settled earliest))
-      (λ l. weights-settled)
-
-  interval-reaches : places ≤ 16 → (earliest : ℕ) → Reaches (chain (keyed (bytes "latest=") (latest earliest)) (λ _. weights places)) 347
-  interval-reaches h earliest =
-      chain-reaches _ _
-      (keyed-reaches (bytes "latest=") _ (latest-reaches earliest))
-      (λ l s at next line e. weights-reaches h)
-
-  pub transition-inverse : Inverse (transition places)
-  transition-inverse =
-      held-inverse toTransition fromTransition (λ v. refl)
-      (chain-inverse _ _ (λ n. refl)
-      (ranged-inverse (bytes "earliest=") 0 1000 (lit< tt))
-      (ranged-settled (bytes "earliest=") 0 1000)
-      (λ n line p. interval-inverse n))
-
-  pub transition-settled : Settled (transition places)
-  transition-settled =
-      held-settled toTransition fromTransition (λ v. refl)
-      (chain-settled _ _ (λ n. refl)
-      (ranged-settled (bytes "earliest=") 0 1000)
-      interval-settled)
-
-  pub transition-reaches : places ≤ 16 → Reaches (transition places) 366
-  transition-reaches h =
-      held-reaches toTransition fromTransition
-      (chain-reaches _ _
-      (number-line-reaches (bytes "earliest=") (ranged 0 1000))
-      (λ n s at next line e. interval-reaches h n))
-
--- the lines behind the counts
-module _ (places transitions : ℕ) where
-  starts-settled : Settled (starts places)
-  starts-settled = times-settled places 16 0 _ (ranged-settled (bytes "start=") 0 255)
-
-  body-inverse : Inverse (body places transitions)
-  body-inverse =
-      chain-inverse _ _ (λ l. refl)
-      (times-inverse places 16 0 _ (ranged-inverse (bytes "start=") 0 255 (lit< tt)) (ranged-settled (bytes "start=") 0 255))
-      starts-settled
-      (λ l line p. times-inverse transitions 32 noTransition _ (transition-inverse places) (transition-settled places))
-
-  body-settled : Settled (body places transitions)
-  body-settled = chain-settled _ _ (λ l. refl) starts-settled (λ l. times-settled transitions 32 noTransition _ (transition-settled places))
-
-  body-reaches : places ≤ 16 → transitions ≤ 32 → Reaches (body places transitions) 11968
-  body-reaches h h′ =
-      let w : Reaches (starts places) 256 = reaches-more (omega arith) (times-reaches places 16 0 _ (number-line-reaches (bytes "start=") (ranged 0 255))) in
-      let w′ : Reaches (table places transitions) 11712 = reaches-more (omega arith) (times-reaches transitions 32 noTransition _ (transition-reaches places h)) in
-      chain-reaches _ _ w (λ l s at next line e. w′)
-
-counted-inverse : (places : ℕ) → Inverse (chain (keyed (bytes "transitions=") (number (ranged 1 32))) (λ transitions. body places transitions))
-counted-inverse places =
-    chain-inverse _ _ (λ n. refl)
-    (ranged-inverse (bytes "transitions=") 1 32 (lit< tt))
-    (ranged-settled (bytes "transitions=") 1 32)
-    (λ n line p. body-inverse places n)
-
-counted-settled : (places : ℕ) → Settled (chain (keyed (bytes "transitions=") (number (ranged 1 32))) (λ transitions. body places transitions))
-counted-settled places = chain-settled _ _ (λ n. refl) (ranged-settled (bytes "transitions=") 1 32) (λ n. body-settled places n)
-
-counted-reaches : (places : ℕ) → places ≤ 16 → Reaches (chain (keyed (bytes "transitions=") (number (ranged 1 32))) (λ transitions. body places transitions)) 11990
-counted-reaches places h =
-    chain-reaches _ _
-    (number-line-reaches (bytes "transitions=") (ranged 1 32))
-    (λ n s at next line e. body-reaches places n h (ranged-read (bytes "transitions=") 1 32 (lit< tt) n s at next line e .1))
-
-pub net-inverse : Inverse netCard
-net-inverse =
-    held-inverse toNet fromNet (λ v. refl)
-    (chain-inverse _ _ (λ n. refl)
-    (ranged-inverse (bytes "places=") 1 16 (lit< tt))
-    (ranged-settled (bytes "places=") 1 16)
-    (λ n line p. counted-inverse n))
-
-pub net-settled : Settled netCard
-net-settled = held-settled toNet fromNet (λ v. refl) (chain-settled _ _ (λ n. refl) (ranged-settled (bytes "places=") 1 16) counted-settled)
+body-format : (places transitions : ℕ) → Format ((places ≤ 16) × (transitions ≤ 32)) (body places transitions) 11968 144
+body-format places transitions =
+    pair-format (times-format places 16 0 (λ h. h .0) (ranged-format (bytes "start=") 0 255 (lit< tt)))
+    (times-format transitions 32 noTransition (λ h. h .1) (format-under (λ h. h .0) (transition-format places)))
 
 -- as many bytes as a reading of a net card looks at
 abbrev pub netReach : ℕ
 netReach = 12007
 
+-- a net card has 146 lines at most: two counts, 16 starts, and four lines for each of 32 transitions
+net-format : Format (Unit {0}) netCard netReach 146
+net-format =
+    held-format toNet fromNet (λ v. refl)
+    (counted-format (bytes "places=") 1 16 (lit< tt)
+    (λ places. counted-format (bytes "transitions=") 1 32 (lit< tt) (body-format places) (λ transitions few h. (h, few)))
+    (λ places few h. few))
+
+pub net-inverse : Inverse netCard
+net-inverse = net-format .inverse tt
+
+pub net-settled : Settled netCard
+net-settled = net-format .settled
+
 pub net-reaches : Reaches netCard netReach
-net-reaches =
-    held-reaches toNet fromNet
-    (chain-reaches _ _
-    (number-line-reaches (bytes "places=") (ranged 1 16))
-    (λ n s at next line e. counted-reaches n (ranged-read (bytes "places=") 1 16 (lit< tt) n s at next line e .1)))
+net-reaches = net-format .reaches tt
+
+pub net-placed : Placed netCard 146
+net-placed = net-format .placed tt
 
 -- what was written is read back, up to the slots past the counts, and reading stops at the rest
 pub net-read-back : (n : Net) (rest : List ℕ) → netCard .check n 1 ≡ Passed

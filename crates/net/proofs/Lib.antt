@@ -1,6 +1,5 @@
 pub mod Card
 pub mod Check
-pub mod Places
 pub mod Read
 pub mod Same
 pub mod Write

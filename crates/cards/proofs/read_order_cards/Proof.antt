@@ -5,7 +5,7 @@ use borrow.Author.Needs.{needs}
 use Rattle.net.proofs.Read.{behind-within}
 use Rattle.run.specs.Run.{orderCard}
 use Rattle.run.specs.Code.{noOrder}
-use Rattle.run.proofs.Card.{order-reaches}
+use Rattle.run.proofs.Card.{order-format}
 use Rattle.cards.specs.Cards.{orderInput}
 use Rattle.cards.proofs.Both.{net-stopped, card-stopped, both-read, both-near}
 use Rattle.cards.proofs.read_order_cards.Statement.{statement}
@@ -29,7 +29,7 @@ add-t18 c =
     omega (
       arith,
       both-near orderCard (n .before .before .args .s .now) (n .read-net .ensures) (k .net-read2 .given .1) (λ i. q i .read) noOrder (λ i. q i .order)
-          (b .order-read2 .given .1) (order-reaches (n .read-net .result .net .transitions)),
+          (b .order-read2 .given .1) (order-format (n .read-net .result .net .transitions)),
     )
 
 returns : tie.Need-returns

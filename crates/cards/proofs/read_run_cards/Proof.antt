@@ -5,7 +5,7 @@ use borrow.Author.Needs.{needs}
 use Rattle.net.proofs.Read.{behind-within}
 use Rattle.run.specs.Run.{runCard}
 use Rattle.run.specs.Code.{noRun}
-use Rattle.run.proofs.Card.{run-reaches}
+use Rattle.run.proofs.Card.{run-format}
 use Rattle.cards.specs.Cards.{runInput}
 use Rattle.cards.proofs.Both.{net-stopped, card-stopped, both-read, both-near}
 use Rattle.cards.proofs.read_run_cards.Statement.{statement}
@@ -29,7 +29,7 @@ add-t18 c =
     omega (
       arith,
       both-near runCard (n .before .before .args .s .now) (n .read-net .ensures) (k .net-read2 .given .1) (λ i. q i .read) noRun (λ i. q i .run)
-          (b .run-read2 .given .1) (run-reaches (n .read-net .result .net .transitions)),
+          (b .run-read2 .given .1) (run-format (n .read-net .result .net .transitions)),
     )
 
 returns : tie.Need-returns
