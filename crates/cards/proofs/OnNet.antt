@@ -8,15 +8,15 @@ use lib.ListN.{length, take, drop}
 use Rattle.laws.specs.Parts.{drop-take}
 use Rattle.reply.specs.declared.Checked.{Checked}
 use Rattle.reply.specs.declared.Checked.the-variants.{Passed, Refused}
-use Rattle.reply.specs.Respond.{answer}
+use Rattle.reply.specs.Respond.{answer, writtenIf}
+use Rattle.reply.proofs.Laws.{written-answer}
 use Rattle.form.specs.Form.{Found, found, also, Form, alone}
 use Rattle.form.specs.Inverse.{Format}
 use Rattle.form.proofs.Found.{not-both, found-value, then-found, then-same, also-first, also-second}
 use Rattle.form.proofs.Card.{text-short, alone-read-back, alone-written-again, alone-passes-exactly, alone-prefix}
 use Rattle.net.specs.declared.Net.{Net}
 use Rattle.net.specs.Net.{netCard}
-use Rattle.net.specs.Code.{writtenIf}
-use Rattle.net.proofs.Card.{netReach, net-inverse, net-reaches, net-prefix, net-transitions, written-answer}
+use Rattle.net.proofs.Card.{netReach, net-inverse, net-reaches, net-prefix, net-transitions}
 use Rattle.cards.specs.Cards.{onNet, bothCards}
 
 on-net-found : {A : Type 0} (c : Checked) (m : Found A) {a : A} {next : ℕ} → onNet c m ≡ found a next → (c ≡ Passed) × (m ≡ found a next)

@@ -4,12 +4,12 @@ use mathlib.Core.List.{List}
 use lib.ListN.{drop}
 use Rattle.reply.specs.declared.Checked.{Checked}
 use Rattle.reply.specs.declared.Checked.the-variants.{Passed, Refused}
-use Rattle.reply.specs.Respond.{Outcome}
+use Rattle.reply.specs.Respond.{Outcome, writtenIf}
 use Rattle.form.specs.Form.{Found, found, refused, andThen, also, Form, alone}
 use Rattle.form.specs.Code.{lineRead, valueOr}
 use Rattle.net.specs.declared.Net.{Net}
 use Rattle.net.specs.Net.{netCard}
-use Rattle.net.specs.Code.{noNet, writtenIf}
+use Rattle.net.specs.Code.{noNet}
 use Rattle.run.specs.declared.Run.{Run}
 use Rattle.run.specs.declared.Order.{Order}
 use Rattle.run.specs.Run.{runCard, orderCard}

@@ -97,7 +97,7 @@ module _ (net : Net) (run : Run) where
       (subst (λ (text : List ℕ). at + length text ≤ length s) text-parts room)
 
   pub record Processing (out₀ : List ℕ) (at : ℕ) (counts heads : List ℕ) (linked : List Bool) (out : List ℕ) (to i : ℕ) : Type 0 where
-    pub wrote : Joining (textAt firings) (run .count) out₀ at out i to
+    pub wrote : Joining (joined (textAt firings) (run .count)) (textAt firings) (run .count) out₀ at out i to
     pub long : (length counts ≡ 1040) × (length heads ≡ 16) × (length linked ≡ 64)
     pub emptied : AllEmptied counts heads (i + 1) (net .places)
     pub ahead : drop i firings ≡ eventsFrom net (drop i order) (queueIn counts (i + 1))
@@ -120,7 +120,7 @@ module _ (net : Net) (run : Run) where
     unfolding events startMarking
     processing-start long small allowed few out at =
         record {
-          wrote = joining-start (textAt firings) (run .count) out at;
+          wrote = joining-start (textAt firings) (run .count) out at refl;
           long = (long, refl, refl);
           emptied = λ p b. rw (getD-replicate {A = ℕ} 16 p 0 0 (omega arith)) (omega arith, λ i h. absurd (not-suc-le-zero h));
           ahead = events-same net order (startQueues net) (queueIn counts 1) start-queues;

@@ -15,7 +15,7 @@ use Rattle.form.proofs.Found.{also-first}
 use Rattle.net.specs.declared.Net.{Net}
 use Rattle.net.specs.Net.{netCard}
 use Rattle.net.proofs.Card.{net-start}
-use Rattle.net.proofs.Write.{text-answered}
+use Rattle.form.proofs.Answers.{text-answered}
 use Rattle.run.specs.declared.Run.{Run}
 use Rattle.firing.specs.declared.Played.{Played}
 use Rattle.firing.specs.Semantics.{startMarking}

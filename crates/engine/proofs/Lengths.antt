@@ -15,7 +15,7 @@ use Rattle.reply.specs.Respond.{Outcome, answer, replyTo}
 use Rattle.reply.proofs.Bounds.{Bounds, written-short, refused-placed}
 use Rattle.form.specs.Form.{Found, found, refused}
 use Rattle.net.specs.declared.Net.{Net}
-use Rattle.net.proofs.Card.{written-answer}
+use Rattle.reply.proofs.Laws.{written-answer}
 use Rattle.run.specs.declared.Run.{Run}
 use Rattle.run.specs.Run.{runCard}
 use Rattle.firing.specs.declared.State.{State}

@@ -15,7 +15,7 @@ use Rattle.reply.specs.declared.Reply.the-variants.{Refused}
 use Rattle.reply.specs.Respond.{Outcome, answer, refusal, Responded}
 use Rattle.form.specs.Form.{Found, found, refused}
 use Rattle.net.specs.declared.Net.{Net}
-use Rattle.net.proofs.Write.{text-answered}
+use Rattle.form.proofs.Answers.{text-answered}
 use Rattle.run.specs.declared.Run.{Run}
 use Rattle.firing.specs.declared.State.{State}
 use Rattle.firing.specs.declared.Played.{Played}

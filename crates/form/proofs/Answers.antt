@@ -1,22 +1,30 @@
 -- What a reader of this crate returned, as what its form finds: the two cases of `Found` are told by the two variants of each answer. Forms
--- in a row are read from what each of them finds.
-use Prim.Native.Nat.{ℕ, _+_, _*_}
+-- in a row are read from what each of them finds. And what is replied with a text that was written.
+use Prim.Native.Nat.{ℕ, _+_, _*_, _≤_, _<_}
 use native.Mathlib.Nat.{mul-suc}
 use native.Mathlib.Omega.{arith}
 use mathlib.Core.Path.{_≡_, ap, _∙_}
 use mathlib.Core.Bool.{true, false}
 use mathlib.Core.List.{List, [], _∷_}
-use lib.ListN.{length, drop, replicate}
+use lib.ListN.{length, take, drop, replicate}
+use borrow.Author.Tests.{le-leb, lt-leb}
+use Rattle.laws.specs.Front.{front-text}
 use Rattle.laws.specs.Slots.{firstOf, length-first}
+use Rattle.laws.specs.Splice.{Wrote}
 use Rattle.reply.specs.declared.Refusal.{Refusal}
 use Rattle.reply.specs.declared.Refusal.the-variants.{Malformed}
+use Rattle.reply.specs.declared.Checked.{Checked}
+use Rattle.reply.specs.declared.Checked.the-variants.{Passed}
+use Rattle.reply.specs.declared.Reply.{Reply}
+use Rattle.reply.specs.Respond.{answer, writtenIf, Responded}
 use Rattle.text.specs.Key.{beginsWith}
 use Rattle.form.specs.declared.NumberLine.the-variants.{Value, Refused}
 use Rattle.form.specs.declared.LineRead.{LineRead}
 use Rattle.form.specs.declared.LineRead.the-variants.{Next, Stopped}
 use Rattle.form.specs.declared.Numbers.{Numbers}
-use Rattle.form.specs.Form.{Found, found, refused, Form, keyed, chain, linesOf, times}
+use Rattle.form.specs.Form.{Found, found, refused, Form, keyed, chain, linesOf, times, alone}
 use Rattle.form.specs.Code.{numberLine, lineRead, valueOr, numbers}
+use Rattle.form.proofs.Found.{found-value, found-place, then-found}
 
 -- a line's number
 pub number-found : (f : Found ℕ) {v next : ℕ} → numberLine f ≡ Value v next → f ≡ found v next
@@ -71,3 +79,41 @@ lines-each f k h (a ∷ l) = rw (mul-suc k (length l)) (omega (arith, h a, lines
 
 pub times-lines : {A : Type 0} (n size : ℕ) (d : A) (f : Form A) (k : ℕ) → ((a : A) → f .lines a ≡ k) → (l : List A) → times n size d f .lines l ≡ k * n
 times-lines n size d f k h l = lines-each f k h (firstOf n d l) ∙ ap (λ (m : ℕ). k * m) (length-first n d l)
+
+-- what two forms in a row found
+pub record Parts {A B : Type 0} (f : Form A) (g : A → Form B) (v : A × B) (s : List ℕ) (at next line : ℕ) : Type 0 where
+  pub place : ℕ
+  pub first : f .read s at line ≡ found (v .0) place
+  pub second : g (v .0) .read s place (line + f .lines (v .0)) ≡ found (v .1) next
+
+module _ {A B : Type 0} (f : Form A) (g : A → Form B) (s : List ℕ) (at line : ℕ) where
+  parts-same : {v w : A × B} {next end : ℕ} → found v next ≡ found w end → Parts f g v s at next line → Parts f g w s at end line
+  parts-same e w = rw (← found-value e, ← found-place e) w
+
+  pub chain-parts : {v : A × B} {next : ℕ} → chain f g .read s at line ≡ found v next → Parts f g v s at next line
+  chain-parts e =
+      let u = then-found (f .read s at line) _ e in
+      let x = then-found (g (u .value) .read s (u .place) (line + f .lines (u .value))) _ (u .then) in
+      parts-same (x .then) (record { place = u .place; first = u .first; second = x .first })
+
+-- a card behind which nothing may follow
+module _ {A : Type 0} (f : Form A) (s : List ℕ) where
+  pub alone-stopped : {r : Refusal} → f .read s 0 1 ≡ refused r → alone f s ≡ refused r
+  alone-stopped e = rw e
+
+  module _ {a : A} {next : ℕ} (e : f .read s 0 1 ≡ found a next) where
+    pub alone-whole : length s ≤ next → alone f s ≡ found a next
+    alone-whole h = rw (e, le-leb (length s) next h)
+
+    pub alone-followed : next < length s → alone f s ≡ refused (Malformed (1 + f .lines a))
+    alone-followed h = rw (e, lt-leb (length s) next h)
+
+-- the reply with a text that was written to the front of a buffer
+pub text-answered : {text s : List ℕ} {r : Reply} {out buffer written : List ℕ} {n : ℕ} → Wrote buffer 0 text n written → Responded (answer (take n written)) s r out
+    → Responded (answer text) s r out
+text-answered w v = rw (front-text w) at v
+
+-- and with that of a value: c is what its check says
+pub card-answered : {c : Checked} {text s : List ℕ} {r : Reply} {out buffer card : List ℕ} {n : ℕ} → c ≡ Passed → Wrote buffer 0 text n card → Responded (answer (take n card)) s r out
+    → Responded (writtenIf c text) s r out
+card-answered p w v = rw p (text-answered w v)

@@ -4,15 +4,14 @@ use Prim.Native.Nat.{ℕ, zero, suc, _+_, _-_, _*_, _≤_, _<_}
 use native.Mathlib.Nat.{sub-zero}
 use native.Mathlib.Omega.{arith}
 use mathlib.Core.Bool.{true, false, _&&_}
-use mathlib.Core.List.{List, [], _∷_, _++_, append-nil, append-assoc}
+use mathlib.Core.List.{List, [], _∷_, _++_, append-nil}
 use mathlib.Core.Path.{_≡_, refl, sym, ap, _∙_}
 use lib.Dec.{eqb, leb}
 use lib.ListN.{length, getD, set, drop, replicate, length-append, length-drop, drop-of-length-le}
 use lib.Seq.{append-snoc}
+use Rattle.laws.specs.Joined.{joined, joined-whole}
 use Rattle.laws.specs.Slots.{firstOf, padTo, length-first, first-pad}
 use Rattle.laws.specs.SlotSteps.{pad-more, first-next, last-left}
-use Rattle.laws.specs.Splice.{Wrote}
-use Rattle.laws.specs.Room.{room-first, room-then, wrote-both, wrote-none}
 use Rattle.reply.specs.declared.Refusal.{Refusal}
 use Rattle.reply.specs.declared.Refusal.the-variants.{Malformed, OutOfRange}
 use Rattle.reply.specs.declared.Checked.the-variants.{Passed, Refused}
@@ -109,45 +108,14 @@ module _ (count : ℕ) (s : List ℕ) (at line : ℕ) where
         rw (h .rest, none, append-nil (h .done), h .kept) refl
 
 -- ---- writing
--- the state of a writer that has written the first i numbers, each with what stands behind it, and stands at `to`
-pub record Writing (out₀ : List ℕ) (at : ℕ) (ns out : List ℕ) (to i : ℕ) : Type 0 where
-  pub done : List ℕ
-  pub wrote : Wrote out₀ at done to out
-  pub rest : itemsText ns ≡ done ++ itemsText (drop i ns)
-
-module _ (out₀ : List ℕ) (at count : ℕ) (held : List ℕ) where
-  pub writing-start : Writing out₀ at (firstOf count 0 held) out₀ at 0
-  writing-start = record { done = []; wrote = wrote-none out₀ at; rest = refl }
-
-  module _ (out : List ℕ) (to i : ℕ) (h : Writing out₀ at (firstOf count 0 held) out to i) where
-    next-text : i < count → itemsText (firstOf count 0 held) ≡ h .done ++ (field (getD held i 0) (eqb (i + 1) count) ++ itemsText (drop (i + 1) (firstOf count 0 held)))
-    unfolding itemsText
-    next-text l =
-        h .rest ∙
-        rw (first-next count 0 held i l, length-drop (i + 1) (firstOf count 0 held), length-first count 0 held, last-left i count l) refl
-
-    pub writing-stop : count ≤ i → Wrote out₀ at (itemsText (firstOf count 0 held)) to out
-    unfolding itemsText
-    writing-stop l =
-        rw (h .rest, drop-of-length-le (firstOf count 0 held) {i = i} (omega (arith, length-first count 0 held)), append-nil (h .done)) (h .wrote)
-
-    module _ (room : at + length (itemsText (firstOf count 0 held)) ≤ length out₀) (l : i < count) where
-      pub writing-room : to + length (field (getD held i 0) (eqb (i + 1) count)) ≤ length out
-      writing-room =
-          let rest = itemsText (drop (i + 1) (firstOf count 0 held)) in
-          let text = field (getD held i 0) (eqb (i + 1) count) in
-          room-first out to text rest (room-then out₀ at (h .done) (text ++ rest) (rw (next-text l) at room) to out (h .wrote))
-
-      pub writing-more : (to′ : ℕ) (out′ : List ℕ) → Wrote out to (field (getD held i 0) (eqb (i + 1) count)) to′ out′ → Writing out₀ at (firstOf count 0 held) out′ to′ (i + 1)
-      writing-more to′ out′ w =
-          let rest = itemsText (drop (i + 1) (firstOf count 0 held)) in
-          let text = field (getD held i 0) (eqb (i + 1) count) in
-          let whole : itemsText (firstOf count 0 held) ≡ h .done ++ text ++ rest = next-text l ∙ sym (append-assoc (h .done) text rest) in
-          record {
-            done = h .done ++ text;
-            wrote = wrote-both out₀ at (h .done) text (room-first out₀ at (h .done ++ text) rest (rw whole at room)) to out (h .wrote) to′ out′ w;
-            rest = whole;
-          }
+-- numbers, each with what stands behind it, told by the index that a loop counts
+pub items-joined : (count : ℕ) (held : List ℕ) → itemsText (firstOf count 0 held) ≡ joined (λ i. field (getD held i 0) (eqb (i + 1) count)) count
+unfolding itemsText
+items-joined count held =
+    let listed = firstOf count 0 held in
+    joined-whole (λ i. field (getD held i 0) (eqb (i + 1) count)) (λ i. itemsText (drop i listed)) count
+    (λ i l. rw (first-next count 0 held i l, length-drop (i + 1) listed, length-first count 0 held, last-left i count l) refl)
+    (ap itemsText (drop-of-length-le listed {i = count} (omega (arith, length-first count 0 held))))
 
 -- no list of numbers is longer than its longest numbers make it
 pub length-items : (ns : List ℕ) → length (itemsText ns) ≤ 21 * length ns

@@ -1,14 +1,15 @@
 -- A loop over n parts in an array: what the whole comes to is what is left comes to, with what was read, checked or written so far.
 use Prim.Native.Nat.{ℕ, suc, _+_, _-_, _≤_, _<_, zero-le}
-use native.Mathlib.Nat.{add-zero, sub-zero}
+use native.Mathlib.Nat.{sub-zero}
 use native.Mathlib.Numerals.{add-one}
 use native.Mathlib.Omega.{arith}
 use mathlib.Core.Path.{_≡_, refl, sym, ap, _∙_}
-use mathlib.Core.List.{List, [], _∷_, _++_, append-assoc, append-nil}
-use lib.ListN.{length, getD, take, drop, set, replicate, length-append, length-replicate, length-set, take-append-drop, drop-of-length-le}
-use lib.Seq.{take-all, take-suc, drop-cons, append-snoc, take-suc-set, drop-set-lt, drop-drop, length-take-le}
-use Rattle.laws.specs.Slots.{firstOf, padTo, length-first, getD-first}
-use Rattle.laws.specs.Splice.{Wrote, wrote-then, wrote-length}
+use mathlib.Core.List.{List, [], _∷_, _++_, append-nil}
+use lib.ListN.{length, getD, take, drop, set, replicate, length-replicate, length-set, take-append-drop, drop-of-length-le}
+use lib.Seq.{append-snoc, take-suc-set, drop-set-lt, drop-drop, length-take-le}
+use Rattle.laws.specs.Joined.{joined, joined-whole}
+use Rattle.laws.specs.SlotSteps.{first-next}
+use Rattle.laws.specs.Slots.{firstOf, padTo, length-first}
 use Rattle.reply.specs.declared.Refusal.{Refusal}
 use Rattle.reply.specs.declared.Checked.the-variants.{Passed, Refused}
 use Rattle.form.specs.Form.{found, refused, andThen, also, Form, texts, checks, reads, times}
@@ -78,14 +79,10 @@ pub record Checking {A : Type 0} (f : Form A) (n : ℕ) (d : A) (l : List A) (li
 pub checking-start : {A : Type 0} (f : Form A) (n : ℕ) (d : A) (l : List A) (line : ℕ) → Checking f n d l line 0 line
 checking-start f n d l line = record { within = zero-le; rest = refl }
 
--- the part that comes next, and those behind it
-next-part : {A : Type 0} (n : ℕ) (d : A) (l : List A) (i : ℕ) → i < n → drop i (firstOf n d l) ≡ getD l i d ∷ drop (i + 1) (firstOf n d l)
-next-part n d l i h = rw (← getD-first n d l i h, add-one) (drop-cons (firstOf n d l) i d (omega (arith, length-first n d l)))
-
 module _ {A : Type 0} {f : Form A} {n : ℕ} {d : A} {l : List A} {line i q : ℕ} (w : Checking f n d l line i q) where
   check-next : i < n → checks f (firstOf n d l) line ≡ also (f .check (getD l i d) q) (checks f (drop (i + 1) (firstOf n d l)) (q + f .lines (getD l i d)))
   unfolding checks
-  check-next h = w .rest ∙ ap (λ (m : List A). checks f m q) (next-part n d l i h)
+  check-next h = w .rest ∙ ap (λ (m : List A). checks f m q) (first-next n d l i h)
 
   pub checking-more : i < n → f .check (getD l i d) q ≡ Passed → Checking f n d l line (i + 1) (q + f .lines (getD l i d))
   checking-more h e = record { within = omega arith; rest = check-next h ∙ rw e refl }
@@ -97,61 +94,9 @@ module _ {A : Type 0} {f : Form A} {n : ℕ} {d : A} {l : List A} {line i q : �
   unfolding checks
   checking-done h = w .rest ∙ ap (λ (m : List A). checks f m q) (drop-of-length-le (firstOf n d l) {i = i} (omega (arith, length-first n d l)))
 
--- of the n parts of l that count, i are written into out from `at` on, and the next one goes to `to`
-pub record Writing {A : Type 0} (f : Form A) (n : ℕ) (d : A) (l : List A) (out₀ : List ℕ) (at : ℕ) (out : List ℕ) (i to : ℕ) : Type 0 where
-  pub within : i ≤ n
-  pub wrote : Wrote out₀ at (texts f (take i (firstOf n d l))) to out
-
-pub writing-start : {A : Type 0} (f : Form A) (n : ℕ) (d : A) (l : List A) (out : List ℕ) (at : ℕ) → Writing f n d l out at out 0 at
+-- the texts of the n parts that count, told by the index that a loop counts
+pub texts-joined : {A : Type 0} (f : Form A) (n : ℕ) (d : A) (l : List A) → texts f (firstOf n d l) ≡ joined (λ i. f .text (getD l i d)) n
 unfolding texts
-writing-start f n d l out at =
-    record {
-      within = zero-le;
-      wrote = record { end = sym (add-zero at); bytes = rw (add-zero at, append-nil (take at out), take-append-drop at out) refl };
-    }
-
-texts-append : {A : Type 0} (f : Form A) (l m : List A) → texts f (l ++ m) ≡ texts f l ++ texts f m
-unfolding texts
-texts-append f [] m = refl
-texts-append f (a ∷ l) m = ap (λ (t : List ℕ). f .text a ++ t) (texts-append f l m) ∙ sym (append-assoc (f .text a) (texts f l) (texts f m))
-
--- the parts in front take no more room than all
-texts-part : {A : Type 0} (f : Form A) (i : ℕ) (l : List A) → length (texts f (take i l)) ≤ length (texts f l)
-texts-part f i l =
-    let e = ap (texts f) (sym (take-append-drop i l)) ∙ texts-append f (take i l) (drop i l) in
-    omega (arith, ap length e, length-append (texts f (take i l)) (texts f (drop i l)))
-
--- the parts up to the next one
-texts-next : {A : Type 0} (f : Form A) (n : ℕ) (d : A) (l : List A) (i : ℕ) → i < n
-    → texts f (take (i + 1) (firstOf n d l)) ≡ texts f (take i (firstOf n d l)) ++ f .text (getD l i d)
-unfolding texts
-texts-next {A} f n d l i h =
-    let m = firstOf n d l in
-    let e : take (i + 1) m ≡ take i m ++ (getD l i d ∷ []) = rw (← getD-first n d l i h, add-one) (take-suc m i d (omega (arith, length-first n d l))) in
-    ap (texts f) e ∙ texts-append f (take i m) (getD l i d ∷ []) ∙ ap (λ (t : List ℕ). texts f (take i m) ++ t) (append-nil (f .text (getD l i d)))
-
-module _ {A : Type 0} {f : Form A} {n : ℕ} {d : A} {l : List A} {out₀ : List ℕ} {at : ℕ} {out : List ℕ} {i to : ℕ} where
-  pub writing-length : at + length (texts f (firstOf n d l)) ≤ length out₀ → Writing f n d l out₀ at out i to → length out ≡ length out₀
-  writing-length r w = wrote-length out₀ at (texts f (take i (firstOf n d l))) to out (omega (arith, texts-part f i (firstOf n d l))) (w .wrote)
-
-  pub writing-room : at + length (texts f (firstOf n d l)) ≤ length out₀ → Writing f n d l out₀ at out i to → i < n → to + length (f .text (getD l i d)) ≤ length out
-  writing-room r w h =
-      omega (
-        arith,
-        w .wrote .end,
-        writing-length r w,
-        texts-part f (i + 1) (firstOf n d l),
-        ap length (texts-next f n d l i h),
-        length-append (texts f (take i (firstOf n d l))) (f .text (getD l i d)),
-      )
-
-  pub writing-more : at + length (texts f (firstOf n d l)) ≤ length out₀ → Writing f n d l out₀ at out i to → i < n
-      → {to′ : ℕ} {out′ : List ℕ} → Wrote out to (f .text (getD l i d)) to′ out′ → Writing f n d l out₀ at out′ (i + 1) to′
-  writing-more r w h {to′} {out′} v =
-      record {
-        within = omega arith;
-        wrote = rw (texts-next f n d l i h) (wrote-then out₀ at (texts f (take i (firstOf n d l))) (f .text (getD l i d)) to to′ out out′ (omega arith) (w .wrote) v);
-      }
-
-  pub writing-done : Writing f n d l out₀ at out i to → n ≤ i → Wrote out₀ at (texts f (firstOf n d l)) to out
-  writing-done w h = rw (take-all i (firstOf n d l) (omega (arith, length-first n d l))) at (w .wrote)
+texts-joined f n d l =
+    joined-whole (λ i. f .text (getD l i d)) (λ i. texts f (drop i (firstOf n d l))) n (λ i h. rw (first-next n d l i h) refl)
+    (ap (texts f) (drop-of-length-le (firstOf n d l) {i = n} (omega (arith, length-first n d l))))

@@ -17,6 +17,7 @@ use Rattle.reply.specs.declared.Checked.{Checked}
 use Rattle.reply.specs.declared.Checked.the-variants.{Passed, Refused}
 use Rattle.reply.specs.Refusal.{positionOf}
 use Rattle.reply.specs.Respond.{answer}
+use Rattle.reply.proofs.Laws.{written-answer}
 use Rattle.text.specs.declared.NumberRead.the-variants.{Value, NoNumber}
 use Rattle.text.specs.Key.{bytes, beginsWith}
 use Rattle.text.specs.Number.{digitsOf, fieldAt}
@@ -37,7 +38,7 @@ use Rattle.net.specs.declared.Latest.the-variants.{Unbounded, Ticks}
 use Rattle.net.specs.declared.Transition.{Transition}
 use Rattle.net.specs.declared.Net.{Net}
 use Rattle.net.specs.Net.{latestChecked, latest, weights, toTransition, fromTransition, transition, noTransition, starts, body, toNet, fromNet, netCard}
-use Rattle.net.specs.Code.{writtenIf, netText}
+use Rattle.net.specs.Code.{netText}
 
 -- where the word stands there is no number
 word-no-number : (s : List ℕ) (at : ℕ) → beginsWith (bytes "inf\n") (drop at s) ≡ true → fieldAt s at true ≡ NoNumber
@@ -225,11 +226,6 @@ module _ (n : Net) (p : netCard .check n 1 ≡ Passed) (t : ℕ) (h : t < n .tra
 -- what is no part of a net lies in its arrays alone
 pub net-clean : (n : Net) → (netCard .clean n .places ≡ n .places) × (netCard .clean n .transitions ≡ n .transitions)
 net-clean n = (refl, refl)
-
--- a card that was written is the text of a value that passed
-pub written-answer : (c : Checked) (text : List ℕ) {bytes : List ℕ} → writtenIf c text ≡ answer bytes → (c ≡ Passed) × (text ≡ bytes)
-written-answer Passed text e = (refl, cc)
-written-answer (Refused r) text e = let z : _≡_ {A = ℕ} 0 1 = cc in absurd (omega arith)
 
 -- the same of the operations: what was written is read back, and what was read is written again
 pub net-text-back : (n : Net) (bytes rest : List ℕ) → netText n ≡ answer bytes → netCard .read (bytes ++ rest) 0 1 ≡ found (netCard .clean n) (length bytes)

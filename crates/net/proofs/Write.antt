@@ -1,29 +1,21 @@
--- The texts of the parts that a transition and a net are written in, the state of the loop that writes the transitions of an array, and the
--- reply with a card: a net that passes its check has a card that fits the buffer.
+-- The texts of the parts that a transition and a net are written in, and the state of the loop that writes the transitions of an array. A net
+-- that passes its check has a card that fits the buffer.
 use Prim.Native.Nat.{ℕ, _+_, _≤_, _<_}
 use native.Mathlib.Omega.{arith}
-use mathlib.Core.Path.{_≡_, refl}
+use mathlib.Core.Path.{_≡_}
 use mathlib.Core.Bool.{true}
 use mathlib.Core.List.{List, _++_}
-use lib.ListN.{length, take, getD}
-use Rattle.laws.specs.Front.{front-text}
+use lib.ListN.{length, getD}
+use Rattle.laws.specs.Joined.{Joining, joining-room, joining-more}
 use Rattle.laws.specs.Slots.{firstOf, getD-within}
 use Rattle.laws.specs.Splice.{Wrote}
-use Rattle.reply.specs.declared.Refusal.{Refusal}
-use Rattle.reply.specs.declared.Checked.{Checked}
 use Rattle.reply.specs.declared.Checked.the-variants.{Passed}
-use Rattle.reply.specs.declared.Checked.the-variants as checked
-use Rattle.reply.specs.declared.Reply.{Reply}
-use Rattle.reply.specs.declared.Reply.the-variants.{Refused}
-use Rattle.reply.specs.Respond.{Responded, answer}
 use Rattle.text.specs.Key.{bytes}
 use Rattle.text.specs.Decimal.{field}
 use Rattle.form.specs.Line.{itemsText}
-use Rattle.form.proofs.Loops.{Writing, writing-room, writing-more}
 use Rattle.net.specs.declared.Transition.{Transition}
 use Rattle.net.specs.declared.Net.{Net}
 use Rattle.net.specs.Net.{latestText, transition, noTransition, table, netCard}
-use Rattle.net.specs.Code.{writtenIf}
 use Rattle.net.proofs.Card.{net-short, net-places, net-transitions}
 
 -- ---- the four lines of a transition
@@ -47,29 +39,17 @@ abbrev pub transitionsText : Net → List ℕ
 transitionsText n = bytes "transitions=" ++ field (n .transitions) true
 
 -- ---- the transitions of an array; d is what stands past its end
-module _ (places : ℕ) {transitions : ℕ} {l : List Transition} {out₀ : List ℕ} {at : ℕ} {out : List ℕ} {i to : ℕ}
-    (room : at + length (table places transitions .text l) ≤ length out₀) (w : Writing (transition places) transitions noTransition l out₀ at out i to) (h : i < transitions)
+module _ (places : ℕ) {transitions : ℕ} (l : List Transition) {out₀ : List ℕ} {at : ℕ} {out : List ℕ} {i to : ℕ}
+    (room : at + length (table places transitions .text l) ≤ length out₀)
+    (w : Joining (table places transitions .text l) (λ k. transition places .text (getD l k noTransition)) transitions out₀ at out i to) (h : i < transitions)
     (d : Transition) (long : i < length l) where
   pub transition-room : to + length (transition places .text (getD l i d)) ≤ length out
-  transition-room = rw (getD-within l i d noTransition long) (writing-room room w h)
+  transition-room = rw (getD-within l i d noTransition long) (joining-room room w h)
 
   pub transition-wrote : {to′ : ℕ} {out′ : List ℕ} → Wrote out to (transition places .text (getD l i d)) to′ out′
-      → Writing (transition places) transitions noTransition l out₀ at out′ (i + 1) to′
-  transition-wrote v = writing-more room w h (rw (getD-within l i d noTransition long) at v)
+      → Joining (table places transitions .text l) (λ k. transition places .text (getD l k noTransition)) transitions out₀ at out′ (i + 1) to′
+  transition-wrote v = joining-more room w h (rw (getD-within l i d noTransition long) at v)
 
--- ---- the reply with a text that was written to the front of a buffer
-pub text-answered : {text s : List ℕ} {r : Reply} {out buffer written : List ℕ} {n : ℕ} → Wrote buffer 0 text n written → Responded (answer (take n written)) s r out
-    → Responded (answer text) s r out
-text-answered w v = rw (front-text w) at v
-
--- the reply with a value's card: c is what its check says
-pub card-answered : {c : Checked} {text s : List ℕ} {r : Reply} {out buffer card : List ℕ} {n : ℕ} → c ≡ Passed → Wrote buffer 0 text n card → Responded (answer (take n card)) s r out
-    → Responded (writtenIf c text) s r out
-card-answered p w v = rw p (text-answered w v)
-
-pub card-refused : {c : Checked} (text s : List ℕ) {r : Refusal} → c ≡ checked.Refused r → Responded (writtenIf c text) s (Refused r) s
-card-refused text s p = rw p (record { reply = refl; output = refl })
-
--- a card fits into a buffer of 12,288 bytes
+-- ---- a card fits into a buffer of 12,288 bytes
 pub card-fits : (n : Net) → netCard .check n 1 ≡ Passed → (n .places ≤ 16) × (n .transitions ≤ 32) × (0 + length (netCard .text n) ≤ 12288)
 card-fits n p = (net-places n p .1, net-transitions n p .1, omega (arith, net-short n p))

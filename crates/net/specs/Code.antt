@@ -2,9 +2,7 @@
 use Prim.Native.Nat.{ℕ}
 use mathlib.Core.List.{List}
 use lib.ListN.{replicate}
-use Rattle.reply.specs.declared.Checked.{Checked}
-use Rattle.reply.specs.declared.Checked.the-variants.{Passed, Refused}
-use Rattle.reply.specs.Respond.{Outcome, answer, refusal}
+use Rattle.reply.specs.Respond.{Outcome, writtenIf}
 use Rattle.form.specs.Form.{Found, found, refused, andThen}
 use Rattle.form.specs.Code.{lineRead, valueOr}
 use Rattle.net.specs.declared.Latest.{Latest}
@@ -48,10 +46,6 @@ abbrev pub remainderStart : {A : Type 0} → Found A → ℕ
 remainderStart (found a next) = next
 remainderStart (refused r) = 0
 
--- a value's card, or the refusal that its card would get
-abbrev pub writtenIf : Checked → List ℕ → Outcome
-writtenIf Passed text = answer text
-writtenIf (Refused r) text = refusal r
-
+-- a net's card, or the refusal that its card would get
 abbrev pub netText : Net → Outcome
 netText n = writtenIf (netCard .check n 1) (netCard .text n)

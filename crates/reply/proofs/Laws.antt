@@ -11,8 +11,10 @@ use lib.Dec.{ltb}
 use borrow.Author.Tests.{ltb-true, ltb-false, lt-ltb, le-ltb}
 use Rattle.reply.specs.declared.Refusal.{Refusal}
 use Rattle.reply.specs.declared.Refusal.the-variants.{OutputTooShort}
+use Rattle.reply.specs.declared.Checked.{Checked}
+use Rattle.reply.specs.declared.Checked.the-variants as checked
 use Rattle.reply.specs.declared.Reply.the-variants.{Written, Refused}
-use Rattle.reply.specs.Respond.{Outcome, answer, refusal, Answered, replyTo, outputOf}
+use Rattle.reply.specs.Respond.{Outcome, answer, refusal, writtenIf, Answered, replyTo, outputOf, Responded}
 
 -- nothing is altered on a refusal
 pub refused-alters-nothing : (o : Outcome) (out : List ℕ) (r : Refusal) → replyTo o out ≡ Refused r → outputOf o out ≡ out
@@ -76,3 +78,12 @@ written-exactly o = (λ a. (length (a .0), λ out h. rw (a .1, le-ltb (length ou
         let e : Refused r ≡ Written (w .0) = w .1 (replicate (w .0) 0) (omega (arith, length-replicate {A = ℕ} (w .0) 0)) in
         let z : _≡_ {A = ℕ} 0 1 = cc in
         absurd (omega arith)
+
+-- a text that was written is that of a value that passed
+pub written-answer : (c : Checked) (text : List ℕ) {bytes : List ℕ} → writtenIf c text ≡ answer bytes → (c ≡ checked.Passed) × (text ≡ bytes)
+written-answer checked.Passed text e = (refl, cc)
+written-answer (checked.Refused r) text e = let z : _≡_ {A = ℕ} 0 1 = cc in absurd (omega arith)
+
+-- the reply where the check refuses
+pub check-refused : {c : Checked} (text s : List ℕ) {r : Refusal} → c ≡ checked.Refused r → Responded (writtenIf c text) s (Refused r) s
+check-refused text s p = rw p (record { reply = refl; output = refl })

@@ -7,6 +7,8 @@ use lib.ListN.{length, drop}
 use lib.Dec.{ltb}
 use Rattle.reply.specs.declared.Refusal.{Refusal}
 use Rattle.reply.specs.declared.Refusal.the-variants.{OutputTooShort}
+use Rattle.reply.specs.declared.Checked.{Checked}
+use Rattle.reply.specs.declared.Checked.the-variants as checked
 use Rattle.reply.specs.declared.Reply.{Reply}
 use Rattle.reply.specs.declared.Reply.the-variants.{Written, Refused}
 
@@ -14,6 +16,11 @@ use Rattle.reply.specs.declared.Reply.the-variants.{Written, Refused}
 pub data Outcome : Type 0 where
   answer : List ℕ → Outcome
   refusal : Refusal → Outcome
+
+-- the text of a value that passes its check, or the refusal
+abbrev pub writtenIf : Checked → List ℕ → Outcome
+writtenIf checked.Passed text = answer text
+writtenIf (checked.Refused r) text = refusal r
 
 -- there is an answer: no refusal but 9 can come of it
 abbrev pub Answered : Outcome → Type 0

@@ -7,7 +7,6 @@ use mathlib.Core.Path.{_≡_, refl, sym, ap, _∙_}
 use mathlib.Core.List.{List}
 use lib.ListN.{length, set, replicate}
 use lib.Dec.{lit<}
-use borrow.Author.Tests.{le-leb, lt-leb}
 use Rattle.reply.specs.declared.Refusal.{Refusal}
 use Rattle.reply.specs.declared.Refusal.the-variants.{Malformed}
 use Rattle.text.specs.Key.{bytes}
@@ -16,9 +15,9 @@ use Rattle.form.specs.declared.LineRead.the-variants.{Next, Stopped}
 use Rattle.form.specs.Form.{Found, found, refused, andThen, Form, keyed, chain, times, alone}
 use Rattle.form.specs.Line.{ranged, number}
 use Rattle.form.specs.Code.{numberLine}
-use Rattle.form.proofs.Found.{found-value, found-place, then-found}
+use Rattle.form.proofs.Found.{found-value, then-found}
 use Rattle.form.proofs.Lines.{ranged-read}
-use Rattle.form.proofs.Answers.{number-found, number-refused, line-found, line-stopped, chain-stopped, chain-then-stopped, chain-found, times-lines}
+use Rattle.form.proofs.Answers.{number-found, number-refused, line-found, line-stopped, chain-stopped, chain-then-stopped, chain-found, times-lines, chain-parts, alone-stopped, alone-whole, alone-followed}
 use Rattle.form.proofs.Loops.{Reading, reading-start, reading-more, reading-refused, reading-done}
 use Rattle.run.specs.declared.Memory.{Memory}
 use Rattle.run.specs.declared.MemoryLine.the-variants as memory-line
@@ -208,33 +207,6 @@ module _ (transitions : ℕ) (s : List ℕ) where
         (ap orderRead (order-together m count (times count 64 0 (fire transitions) .read s next 3)))
 
 -- ---- a card behind which nothing may follow
-module _ {A : Type 0} (f : Form A) (s : List ℕ) where
-  alone-stopped : {r : Refusal} → f .read s 0 1 ≡ refused r → alone f s ≡ refused r
-  alone-stopped e = rw e
-
-  module _ {a : A} {next : ℕ} (e : f .read s 0 1 ≡ found a next) where
-    alone-whole : length s ≤ next → alone f s ≡ found a next
-    alone-whole h = rw (e, le-leb (length s) next h)
-
-    alone-followed : next < length s → alone f s ≡ refused (Malformed (1 + f .lines a))
-    alone-followed h = rw (e, lt-leb (length s) next h)
-
--- what two forms in a row found
-record Parts {A B : Type 0} (f : Form A) (g : A → Form B) (v : A × B) (s : List ℕ) (at next line : ℕ) : Type 0 where
-  place : ℕ
-  first : f .read s at line ≡ found (v .0) place
-  second : g (v .0) .read s place (line + f .lines (v .0)) ≡ found (v .1) next
-
-module _ {A B : Type 0} (f : Form A) (g : A → Form B) (s : List ℕ) (at line : ℕ) where
-  parts-same : {v w : A × B} {next end : ℕ} → found v next ≡ found w end → Parts f g v s at next line → Parts f g w s at end line
-  parts-same e w = rw (← found-value e, ← found-place e) w
-
-  chain-parts : {v : A × B} {next : ℕ} → chain f g .read s at line ≡ found v next → Parts f g v s at next line
-  chain-parts e =
-      let u = then-found (f .read s at line) _ e in
-      let x = then-found (g (u .value) .read s (u .place) (line + f .lines (u .value))) _ (u .then) in
-      parts-same (x .then) (record { place = u .place; first = u .first; second = x .first })
-
 -- the count of firings of a card that was read
 module _ (transitions : ℕ) (s : List ℕ) where
   abbrev counted : Form (ℕ × (List Firing × ℕ))

@@ -2,7 +2,8 @@
 use mathlib.Core.Path.{sym, _∙_}
 use borrow.Author.Needs.{needs}
 use Rattle.laws.specs.Front.{front-within, front-length}
-use Rattle.net.proofs.Write.{card-answered, card-refused}
+use Rattle.reply.proofs.Laws.{check-refused}
+use Rattle.form.proofs.Answers.{card-answered}
 use Rattle.run.specs.Run.{orderCard}
 use Rattle.cards.proofs.Cards.{order-fits}
 use Rattle.cards.proofs.write_order.Statement.{statement}
@@ -25,7 +26,7 @@ returns : tie.Need-returns
 returns c =
     let k = c .before .before .before in
     let a = k .before .before .args in
-    card-refused (orderCard (a .net .transitions) .text (a .order)) (a .out .now) (sym (k .check-order .ensures) ∙ c .before .c .given .1)
+    check-refused (orderCard (a .net .transitions) .text (a .order)) (a .out .now) (sym (k .check-order .ensures) ∙ c .before .c .given .1)
 
 returns-2 : tie.Need-returns-2
 returns-2 c =

@@ -1,5 +1,6 @@
 -- The loop keeps the state of a writer of one line after another (`Joining`); the flags and instants in the arrays are those of the state.
 use Prim.Native.Nat.{_+_, _-_, _≤_}
+use mathlib.Core.Path.{refl}
 use lib.ListN.{length}
 use borrow.Author.Needs.{needs}
 use Rattle.laws.specs.Joined.{joined, Joining, joining-start, joining-length, joining-room, joining-more, joining-done}
@@ -8,7 +9,7 @@ use Rattle.engine.proofs.put_clocks.Statement.{statement}
 use Rattle.engine.proofs.put_clocks.Tie as tie
 
 abbrev Inv-loop : tie.InvT-loop
-Inv-loop out₀ at transitions flags since now to₀ u₀ out to u = Joining (clockLine flags since now) transitions out₀ at out u to
+Inv-loop out₀ at transitions flags since now to₀ u₀ out to u = Joining (joined (clockLine flags since now) transitions) (clockLine flags since now) transitions out₀ at out u to
 
 abbrev μ-loop : tie.MeasureT-loop
 μ-loop out₀ at transitions flags since now to₀ u₀ out to u = transitions - u
@@ -25,7 +26,7 @@ loop-holds : tie.Need-loop-holds Inv-loop μ-loop
 loop-holds c =
     let f = c .before in
     let a = f .before .before .args in
-    joining-start (clockLine (f .enabled-flags .result) (a .st .since) (a .st .now)) (a .net .transitions) (a .out .now) (a .at)
+    joining-start (clockLine (f .enabled-flags .result) (a .st .since) (a .st .now)) (a .net .transitions) (a .out .now) (a .at) refl
 
 sub-put-clock : tie.Need-sub-put-clock Inv-loop μ-loop
 sub-put-clock c =

@@ -1,7 +1,7 @@
 -- The card fits the buffer, and its bytes are the answer.
 use borrow.Author.Needs.{needs}
 use Rattle.laws.specs.Front.{front-within, front-length}
-use Rattle.net.proofs.Write.{text-answered}
+use Rattle.form.proofs.Answers.{text-answered}
 use Rattle.engine.proofs.respond_run.Statement.{statement}
 use Rattle.engine.proofs.respond_run.Tie as tie
 

@@ -2,8 +2,10 @@
 use mathlib.Core.Path.{sym, _∙_}
 use borrow.Author.Needs.{needs}
 use Rattle.laws.specs.Front.{front-within, front-length}
+use Rattle.reply.proofs.Laws.{check-refused}
+use Rattle.form.proofs.Answers.{card-answered}
 use Rattle.net.specs.Net.{netCard}
-use Rattle.net.proofs.Write.{card-answered, card-refused, card-fits}
+use Rattle.net.proofs.Write.{card-fits}
 use Rattle.net.proofs.write_net.Statement.{statement}
 use Rattle.net.proofs.write_net.Tie as tie
 
@@ -23,7 +25,7 @@ returns : tie.Need-returns
 returns c =
     let k = c .before .before .before in
     let a = k .before .before .args in
-    card-refused (netCard .text (a .net)) (a .out .now) (sym (k .check-net .ensures) ∙ c .before .c .given .1)
+    check-refused (netCard .text (a .net)) (a .out .now) (sym (k .check-net .ensures) ∙ c .before .c .given .1)
 
 returns-2 : tie.Need-returns-2
 returns-2 c =
