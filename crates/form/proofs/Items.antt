@@ -1,6 +1,6 @@
 -- A line with a list of numbers: the state of each loop over it, which says the whole by what is left. The code tells the last number by the
 -- index, the definitions by what is left, and the two agree.
-use Prim.Native.Nat.{ℕ, zero, suc, _+_, _-_, _*_, _≤_, _<_}
+use Prim.Native.Nat.{ℕ, suc, _+_, _-_, _*_, _≤_, _<_}
 use native.Mathlib.Nat.{sub-zero}
 use native.Mathlib.Omega.{arith}
 use mathlib.Core.Bool.{true, false, _&&_}
@@ -15,7 +15,6 @@ use Rattle.laws.specs.SlotSteps.{pad-more, first-next, last-left}
 use Rattle.reply.specs.declared.Refusal.{Refusal}
 use Rattle.reply.specs.declared.Refusal.the-variants.{Malformed, OutOfRange}
 use Rattle.reply.specs.declared.Checked.the-variants.{Passed, Refused}
-use Rattle.text.specs.declared.NumberRead.{NumberRead}
 use Rattle.text.specs.declared.NumberRead.the-variants.{Value, NoNumber}
 use Rattle.text.specs.Decimal.{field}
 use Rattle.text.specs.Key.{beginsWith}
@@ -26,6 +25,7 @@ use Rattle.form.specs.declared.Numbers.{Numbers}
 use Rattle.form.specs.Form.{Found, found, refused, andThen, judged, keyed}
 use Rattle.form.specs.Line.{formed, itemsText, itemsAt, allRanged, itemsRanged, items}
 use Rattle.form.specs.Code.{numbers}
+use Rattle.form.proofs.Lines.{items-there}
 
 -- ---- ranges
 -- the state of a check that has passed i numbers
@@ -126,20 +126,6 @@ length-items (n ∷ ns) =
     omega (arith, length-append (field n last) (itemsText ns), field-short n last, length-items ns)
 
 -- ---- the whole line
--- a list that was read has as many numbers as were asked for
-pub items-length : (k : ℕ) (s : List ℕ) (at line : ℕ) (ns : List ℕ) (next : ℕ) → itemsAt k s at line ≡ found ns next → length ns ≡ k
-unfolding itemsAt
-items-length zero s at line ns next e = let none : ns ≡ [] = cc in ap length none
-items-length (suc k) s at line ns next e = go (λ to ms end. items-length k s to line ms end) (fieldAt s at (eqb k 0)) e
-  where
-    behind : (n : ℕ) (f : Found (List ℕ)) → ((ms : List ℕ) (end : ℕ) → f ≡ found ms end → length ms ≡ k) → andThen f (λ ms end. found (n ∷ ms) end) ≡ found ns next → length ns ≡ suc k
-    behind n (found ms end) few q = let whole : ns ≡ n ∷ ms = cc in ap length whole ∙ ap suc (few ms end refl)
-    behind n (refused r) few q = let z : _≡_ {A = ℕ} 0 1 = cc in absurd (omega arith)
-
-    go : ((to : ℕ) (ms : List ℕ) (end : ℕ) → itemsAt k s to line ≡ found ms end → length ms ≡ k) → (r : NumberRead) → andThen (formed line r) (λ n to. andThen (itemsAt k s to line) (λ ms end. found (n ∷ ms) end)) ≡ found ns next → length ns ≡ suc k
-    go few (Value n to) q = behind n (itemsAt k s to line) (few to) q
-    go few NoNumber q = let z : _≡_ {A = ℕ} 0 1 = cc in absurd (omega arith)
-
 -- what an answer says of what was found
 found-stopped : (f : Found (List ℕ)) (r : Refusal) → numbers (padded f) .read ≡ Stopped r → f ≡ refused r
 found-stopped (found ns next) r h = let z : _≡_ {A = ℕ} 0 1 = cc in absurd (omega arith)
@@ -164,7 +150,7 @@ module _ (key s : List ℕ) (at count low high line : ℕ) where
     items-judged : (next : ℕ) → list .read ≡ Next next → itemsLine ≡ judged (itemsRanged low high (firstOf count 0 (list .items)) line) (list .items) next
     items-judged next h =
         let f = found-next (itemsAt count s (at + length key) line) next (rw e at h) in
-        let many : length (f .0) ≡ count = items-length count s (at + length key) line (f .0) next (f .1) in
+        let many = items-there count (f .0) s (at + length key) next line (f .1) .count in
         rw (b, e, f .1, first-pad count 16 0 (f .0) many) refl
 
     pub items-refused : (next : ℕ) (r : Refusal) → list .read ≡ Next next → itemsRanged low high (firstOf count 0 (list .items)) line ≡ Refused r → numbers (refused r) ≡ numbers itemsLine

@@ -75,10 +75,10 @@ module _ (judge : ℕ → ℕ → Checked) where
       }
 
 -- the numbers of a line in a row: they stand there, and are as many as were asked for
-record ItemsThere (k : ℕ) (ns s : List ℕ) (at next : ℕ) : Type 0 where
-  count : length ns ≡ k
-  bytes : drop at s ≡ itemsText ns ++ drop next s
-  end : next ≡ at + length (itemsText ns)
+pub record ItemsThere (k : ℕ) (ns s : List ℕ) (at next : ℕ) : Type 0 where
+  pub count : length ns ≡ k
+  pub bytes : drop at s ≡ itemsText ns ++ drop next s
+  pub end : next ≡ at + length (itemsText ns)
 
 items-same : (k : ℕ) {ns ms s : List ℕ} {at next end : ℕ} → found ns next ≡ found ms end → ItemsThere k ns s at next → ItemsThere k ms s at end
 items-same k e w = rw (← found-value e, ← found-place e) w
@@ -94,7 +94,7 @@ items-more k n ns s at next end e w =
       end = rw (w .count) (omega (arith, v .end, w .end, both-long t (itemsText ns) at));
     }
 
-items-there : (k : ℕ) (ns s : List ℕ) (at next line : ℕ) → itemsAt k s at line ≡ found ns next → ItemsThere k ns s at next
+pub items-there : (k : ℕ) (ns s : List ℕ) (at next line : ℕ) → itemsAt k s at line ≡ found ns next → ItemsThere k ns s at next
 unfolding itemsText itemsAt
 items-there zero ns s at next line e = items-same 0 e (record { count = refl; bytes = refl; end = sym (add-zero at) })
 items-there (suc k) ns s at next line e =

@@ -13,7 +13,6 @@ use Rattle.laws.specs.EachAt.{each-at}
 use Rattle.laws.specs.Slots.{firstOf, length-first, getD-first}
 use Rattle.reply.specs.declared.Refusal.{Refusal}
 use Rattle.reply.specs.declared.Refusal.the-variants.{OutOfRange, LatestBelowEarliest}
-use Rattle.reply.specs.declared.Checked.{Checked}
 use Rattle.reply.specs.declared.Checked.the-variants.{Passed, Refused}
 use Rattle.reply.specs.Refusal.{positionOf}
 use Rattle.reply.specs.Respond.{answer}
