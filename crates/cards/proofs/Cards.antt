@@ -1,30 +1,22 @@
 -- Both round trips of run and order cards of a net, from the laws of their forms; and how much of an input a reading looks at.
 use Prim.Native.Nat.{ℕ, _+_, _≤_, _<_}
-use native.Mathlib.Omega.{arith}
 use mathlib.Core.Path.{_≡_, ap, _∙_}
 use mathlib.Core.Logic.{_↔_}
 use mathlib.Core.List.{List}
 use lib.ListN.{length, take}
-use Rattle.reply.specs.declared.Refusal.{Refusal}
 use Rattle.reply.specs.declared.Checked.the-variants.{Passed}
 use Rattle.reply.specs.Respond.{answer}
-use Rattle.form.specs.declared.LineRead.the-variants.{Next, Stopped}
-use Rattle.form.specs.Form.{found, refused}
-use Rattle.form.proofs.Answers.{line-found, line-stopped}
+use Rattle.form.specs.Form.{found}
 use Rattle.form.proofs.Found.{also-first, also-second}
 use Rattle.net.specs.declared.Net.{Net}
 use Rattle.net.specs.Net.{netCard}
-use Rattle.net.specs.Code.{noNet}
 use Rattle.net.proofs.Card.{netReach, net-places, net-transitions}
 use Rattle.run.specs.declared.Run.{Run}
 use Rattle.run.specs.declared.Order.{Order}
 use Rattle.run.specs.Run.{runCard, orderCard}
-use Rattle.run.specs.Code.{noRun, noOrder}
 use Rattle.run.proofs.Card.{runReach, orderReach, run-format, order-format}
-use Rattle.run.proofs.Check.{run-count-within, order-count-within}
-use Rattle.cards.specs.declared.RunInput.{RunInput}
-use Rattle.cards.specs.declared.OrderInput.{OrderInput}
-use Rattle.cards.specs.Cards.{readRun, readOrder, runCards, orderCards, runInput, orderInput, runChecked, orderChecked, runText, orderText}
+use Rattle.run.proofs.Ranges.{run-in-ranges}
+use Rattle.cards.specs.Cards.{readRun, readOrder, runCards, orderCards, runChecked, orderChecked, runText, orderText}
 use Rattle.cards.proofs.OnNet.{card-read-back, card-written-again, card-passes-exactly, card-short, both-prefix, both-passed}
 
 module _ (net : Net) where
@@ -35,7 +27,8 @@ module _ (net : Net) where
   pub run-read-back : (r : Run) (bytes : List ℕ) → runText net r ≡ answer bytes → readRun net bytes ≡ found (runCard (net .transitions) .clean r) (length bytes)
   run-read-back = card-read-back (netCard .check net 1) (runCard (net .transitions)) few (run-format (net .transitions))
 
-  pub order-read-back : (o : Order) (bytes : List ℕ) → orderText net o ≡ answer bytes → readOrder net bytes ≡ found (orderCard (net .transitions) .clean o) (length bytes)
+  pub order-read-back : (o : Order) (bytes : List ℕ) → orderText net o ≡ answer bytes
+      → readOrder net bytes ≡ found (orderCard (net .transitions) .clean o) (length bytes)
   order-read-back = card-read-back (netCard .check net 1) (orderCard (net .transitions)) few (order-format (net .transitions))
 
   -- what was read and is written again gives its bytes back
@@ -69,19 +62,7 @@ module _ (net : Net) where
   pub run-counts : (r : Run) → runChecked net r ≡ Passed → (net .places ≤ 16) × (net .transitions ≤ 32) × (r .count ≤ 64)
   run-counts r p =
       let q = also-first (netCard .check net 1) _ p in
-      (net-places net q .1, net-transitions net q .1, run-count-within (net .transitions) r (also-second (netCard .check net 1) _ p))
-
-  pub order-counts : (o : Order) → orderChecked net o ≡ Passed → (net .places ≤ 16) × (net .transitions ≤ 32) × (o .count ≤ 64)
-  order-counts o p =
-      let q = also-first (netCard .check net 1) _ p in
-      (net-places net q .1, net-transitions net q .1, order-count-within (net .transitions) o (also-second (netCard .check net 1) _ p))
-
-  -- a run of a net that passes has a card that fits into a buffer of 2,048 bytes, and an order one that fits into 1,024
-  pub run-fits : (r : Run) → runChecked net r ≡ Passed → (r .count ≤ 64) × (0 + length (runCard (net .transitions) .text r) ≤ 2048)
-  run-fits r p = (run-count-within (net .transitions) r (also-second (netCard .check net 1) _ p), omega (arith, run-short r p))
-
-  pub order-fits : (o : Order) → orderChecked net o ≡ Passed → (o .count ≤ 64) × (0 + length (orderCard (net .transitions) .text o) ≤ 1024)
-  order-fits o p = (order-count-within (net .transitions) o (also-second (netCard .check net 1) _ p), omega (arith, order-short o p))
+      (net-places net q .1, net-transitions net q .1, run-in-ranges (net .transitions) r .0 (also-second (netCard .check net 1) _ p) .few)
 
 -- a program whose buffer holds the first k bytes loses nothing
 pub run-cards-prefix : (s : List ℕ) (k : ℕ) → netReach + runReach < k → runCards (take k s) ≡ runCards s
@@ -96,18 +77,3 @@ run-cards-passed = both-passed runCard run-format
 
 pub order-cards-passed : (s : List ℕ) {net : Net} {o : Order} {end : ℕ} → orderCards s ≡ found (net, o) end → orderChecked net o ≡ Passed
 order-cards-passed = both-passed orderCard order-format
-
--- what an input that was read says of its cards
-module _ (s : List ℕ) {i : RunInput} (is : i ≡ runInput (runCards s)) where
-  pub run-input-stopped : {r : Refusal} → i .read ≡ Stopped r → runCards s ≡ refused r
-  run-input-stopped e = line-stopped (runCards s) (i .read) (λ k. is k .read) e
-
-  pub run-input-found : {next : ℕ} → i .read ≡ Next next → runCards s ≡ found (i .net, i .run) next
-  run-input-found e = line-found (runCards s) (noNet, noRun) (i .net, i .run) (i .read) (λ k. is k .read) (λ k. (is k .net, is k .run)) e
-
-module _ (s : List ℕ) {i : OrderInput} (is : i ≡ orderInput (orderCards s)) where
-  pub order-input-stopped : {r : Refusal} → i .read ≡ Stopped r → orderCards s ≡ refused r
-  order-input-stopped e = line-stopped (orderCards s) (i .read) (λ k. is k .read) e
-
-  pub order-input-found : {next : ℕ} → i .read ≡ Next next → orderCards s ≡ found (i .net, i .order) next
-  order-input-found e = line-found (orderCards s) (noNet, noOrder) (i .net, i .order) (i .read) (λ k. is k .read) (λ k. (is k .net, is k .order)) e

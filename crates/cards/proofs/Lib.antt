@@ -1,4 +1,4 @@
-pub mod Both
+pub mod Behind
 pub mod Cards
 pub mod OnNet
 pub mod Places

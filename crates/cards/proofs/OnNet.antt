@@ -5,7 +5,7 @@ use mathlib.Core.Path.{_≡_, refl, sym, ap, subst}
 use mathlib.Core.Logic.{_↔_}
 use mathlib.Core.List.{List}
 use lib.ListN.{length, take, drop}
-use Rattle.laws.specs.Parts.{drop-take}
+use Rattle.laws.specs.Writing.{drop-take}
 use Rattle.reply.specs.declared.Checked.{Checked}
 use Rattle.reply.specs.declared.Checked.the-variants.{Passed, Refused}
 use Rattle.reply.specs.Respond.{answer, writtenIf}
@@ -25,7 +25,8 @@ on-net-found (Refused r) m e = absurd (not-both e)
 
 -- c is the check of the net
 module _ {A : Type 0} (c : Checked) (f : Form A) {P : Type 0} {reach most : ℕ} (few : c ≡ Passed → P) (w : Format P f reach most) where
-  pub card-read-back : (a : A) (bytes : List ℕ) → writtenIf (also c (f .check a 1)) (f .text a) ≡ answer bytes → onNet c (alone f bytes) ≡ found (f .clean a) (length bytes)
+  pub card-read-back : (a : A) (bytes : List ℕ) → writtenIf (also c (f .check a 1)) (f .text a) ≡ answer bytes
+      → onNet c (alone f bytes) ≡ found (f .clean a) (length bytes)
   card-read-back a bytes e =
       let h = written-answer (also c (f .check a 1)) (f .text a) e in
       let p = also-first c (f .check a 1) (h .0) in
@@ -50,13 +51,18 @@ module _ {A : Type 0} (c : Checked) (f : Form A) {P : Type 0} {reach most : ℕ}
       text-short (w .inverse h) (w .reaches h) a (also-second c (f .check a 1) p)
 
 -- a reading of both cards looks at as much as the two readings together
-pub both-prefix : {A : Type 0} (f : ℕ → Form A) {reach most : ℕ} → ((transitions : ℕ) → Format (transitions ≤ 32) (f transitions) reach most) → (s : List ℕ) (k : ℕ)
+pub both-prefix : {A : Type 0} (f : ℕ → Form A) {reach most : ℕ} → ((transitions : ℕ) → Format (transitions ≤ 32) (f transitions) reach most)
+    → (s : List ℕ) (k : ℕ)
     → netReach + reach < k → bothCards f (take k s) ≡ bothCards f s
 both-prefix f w s k h =
     rw (net-prefix s k (omega arith))
     (then-same (netCard .read s 0 1) _ _ (λ net next e.
     let few = net-transitions net (net-inverse .written-read net s 0 next 1 e .passed) .1 in
-    rw (drop-take next k s, alone-prefix (w (net .transitions) .reaches few) (drop next s) (k - next) (omega (arith, net-reaches .near net s 0 next 1 e))) refl))
+    rw (
+      drop-take next k s,
+      alone-prefix (w (net .transitions) .reaches few) (drop next s) (k - next)
+          (omega (arith, net-reaches .near net s 0 next 1 e)),
+    ) refl))
 
 -- a net and a value of it that were read pass their checks
 pub both-passed : {A : Type 0} (f : ℕ → Form A) {reach most : ℕ} → ((transitions : ℕ) → Format (transitions ≤ 32) (f transitions) reach most)

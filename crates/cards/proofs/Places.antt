@@ -15,7 +15,8 @@ use Rattle.run.specs.Run.{runCard, orderCard}
 use Rattle.run.proofs.Card.{run-format, order-format}
 use Rattle.cards.specs.Cards.{bothCards, runCards, orderCards}
 
-both-placed : {A : Type 0} (card : ℕ → Form A) {reach n : ℕ} → ((transitions : ℕ) → Format (transitions ≤ 32) (card transitions) reach n) → n ≤ 145 → (s : List ℕ) {r : Refusal}
+both-placed : {A : Type 0} (card : ℕ → Form A) {reach n : ℕ} → ((transitions : ℕ) → Format (transitions ≤ 32) (card transitions) reach n) → n ≤ 145
+    → (s : List ℕ) {r : Refusal}
     → bothCards card s ≡ refused r → Among 1 146 r
 both-placed card w h s {r} =
     then-refused (netCard .read s 0 1) _ (net-placed .named r s 0 1)

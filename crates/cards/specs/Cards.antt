@@ -5,17 +5,14 @@ use lib.ListN.{drop}
 use Rattle.reply.specs.declared.Checked.{Checked}
 use Rattle.reply.specs.declared.Checked.the-variants.{Passed, Refused}
 use Rattle.reply.specs.Respond.{Outcome, writtenIf}
+use Rattle.form.specs.declared.LineRead.{LineRead}
+use Rattle.form.specs.declared.LineRead.the-variants.{Next, Stopped}
 use Rattle.form.specs.Form.{Found, found, refused, andThen, also, Form, alone}
-use Rattle.form.specs.Code.{lineRead, valueOr}
 use Rattle.net.specs.declared.Net.{Net}
 use Rattle.net.specs.Net.{netCard}
-use Rattle.net.specs.Code.{noNet}
 use Rattle.run.specs.declared.Run.{Run}
 use Rattle.run.specs.declared.Order.{Order}
 use Rattle.run.specs.Run.{runCard, orderCard}
-use Rattle.run.specs.Code.{noRun, noOrder}
-use Rattle.cards.specs.declared.RunInput.{RunInput}
-use Rattle.cards.specs.declared.OrderInput.{OrderInput}
 
 -- what is read only of a net that passes its check: the net first
 abbrev pub onNet : {A : Type 0} → Checked → Found A → Found A
@@ -39,11 +36,10 @@ runCards = bothCards runCard
 abbrev pub orderCards : List ℕ → Found (Net × Order)
 orderCards = bothCards orderCard
 
-abbrev pub runInput : Found (Net × Run) → RunInput
-runInput f = record { read = lineRead f; net = valueOr (noNet, noRun) f .0; run = valueOr (noNet, noRun) f .1 }
-
-abbrev pub orderInput : Found (Net × Order) → OrderInput
-orderInput f = record { read = lineRead f; net = valueOr (noNet, noOrder) f .0; order = valueOr (noNet, noOrder) f .1 }
+-- the same in two steps: the card behind a net card of which so much was read, from the part of the input behind that
+abbrev pub cardBehind : {A : Type 0} → Form A → List ℕ → LineRead → Found A
+cardBehind f s (Next n) = alone f (drop n s)
+cardBehind f s (Stopped r) = refused r
 
 -- a run and an order of a net, handed over as values: the net first
 abbrev pub runChecked : Net → Run → Checked

@@ -129,8 +129,20 @@ fn has_field(operation: Operation, field: Field) -> bool {
     }
 }
 
-// Whether a change's indices stand in the arrays that it names.
+// Whether a change's number fits the slot: that of an array of bytes is below 256.
+fn fits(c: Change) -> bool {
+    let field = c.field;
+    match field {
+        Field::Start | Field::Take | Field::Give => c.value < 256,
+        _ => true,
+    }
+}
+
+// Whether a change's indices stand in the arrays that it names, and its number fits the slot.
 fn in_arrays(c: Change) -> bool {
+    if !fits(c) {
+        return false;
+    }
     let field = c.field;
     match field {
         Field::Start => c.first < 16,
@@ -142,7 +154,7 @@ fn in_arrays(c: Change) -> bool {
 }
 
 // Whether each line is a change that can be made to what an operation reads.
-pub fn all_made(s: &[u8], operation: Operation) -> bool {
+pub(crate) fn all_made(s: &[u8], operation: Operation) -> bool {
     let mut at: usize = 0;
     while at < s.len() {
         let c = change_at(s, at);
@@ -158,27 +170,6 @@ pub fn all_made(s: &[u8], operation: Operation) -> bool {
     true
 }
 
-// An array with another number in one slot.
-fn with_slot(items: [u32; 16], i: usize, value: u32) -> [u32; 16] {
-    let mut r = items;
-    if i < 16 {
-        r[i] = value;
-    }
-    r
-}
-
-// A transition with another upper bound.
-fn with_latest(t: Transition, latest: Latest) -> Transition {
-    let take = t.take;
-    let give = t.give;
-    Transition {
-        earliest: t.earliest,
-        latest,
-        take,
-        give,
-    }
-}
-
 // A transition with a change made.
 fn change_transition(t: Transition, c: Change) -> Transition {
     let mut r = t;
@@ -188,27 +179,23 @@ fn change_transition(t: Transition, c: Change) -> Transition {
             r.earliest = c.value;
         }
         Field::Latest => {
-            r = with_latest(t, Latest::Ticks(c.value));
+            r = Transition {
+                earliest: t.earliest,
+                latest: Latest::Ticks(c.value),
+            };
         }
         Field::Unbounded => {
-            r = with_latest(t, Latest::Unbounded);
-        }
-        Field::Take => {
-            let take = t.take;
-            let changed = with_slot(take, c.second, c.value);
-            r.take = changed;
-        }
-        Field::Give => {
-            let give = t.give;
-            let changed = with_slot(give, c.second, c.value);
-            r.give = changed;
+            r = Transition {
+                earliest: t.earliest,
+                latest: Latest::Unbounded,
+            };
         }
         _ => {}
     }
     r
 }
 
-// A net with a change made to one of its transitions.
+// A net with a change made to one of its intervals.
 fn change_table(net: Net, c: Change) -> Net {
     let i = c.first;
     if 32 <= i {
@@ -221,9 +208,43 @@ fn change_table(net: Net, c: Change) -> Net {
     n
 }
 
+// A net with another number of tokens on a place at the start.
+fn change_start(net: Net, place: usize, tokens: u8) -> Net {
+    let mut n = net;
+    if place < 16 {
+        n.start[place] = tokens;
+    }
+    n
+}
+
+// A net with a change made to what one of its transitions takes or gives.
+fn change_arcs(net: Net, c: Change, tokens: u8) -> Net {
+    let t = c.first;
+    let p = c.second;
+    if 32 <= t {
+        return net;
+    }
+    if 16 <= p {
+        return net;
+    }
+    let mut n = net;
+    let field = c.field;
+    match field {
+        Field::Take => {
+            n.take[32 * p + t] = tokens;
+        }
+        Field::Give => {
+            n.give[16 * t + p] = tokens;
+        }
+        _ => {}
+    }
+    n
+}
+
 // A net with a change made.
 fn change_net(net: Net, c: Change) -> Net {
     let mut n = net;
+    let tokens = (c.value % 256) as u8;
     let field = c.field;
     match field {
         Field::Places => {
@@ -233,9 +254,10 @@ fn change_net(net: Net, c: Change) -> Net {
             n.transitions = c.value as usize;
         }
         Field::Start => {
-            let start = net.start;
-            let changed = with_slot(start, c.first, c.value);
-            n.start = changed;
+            n = change_start(net, c.first, tokens);
+        }
+        Field::Take | Field::Give => {
+            n = change_arcs(net, c, tokens);
         }
         _ => {
             n = change_table(net, c);
@@ -312,7 +334,7 @@ fn change_order(order: Order, c: Change) -> Order {
 }
 
 // A net with the changes made that the lines name.
-pub fn changed_net(net: Net, s: &[u8]) -> Net {
+pub(crate) fn changed_net(net: Net, s: &[u8]) -> Net {
     let mut n = net;
     let mut at: usize = 0;
     while at < s.len() {
@@ -324,7 +346,7 @@ pub fn changed_net(net: Net, s: &[u8]) -> Net {
 }
 
 // A run with the changes made that the lines name.
-pub fn changed_run(run: Run, s: &[u8]) -> Run {
+pub(crate) fn changed_run(run: Run, s: &[u8]) -> Run {
     let mut r = run;
     let mut at: usize = 0;
     while at < s.len() {
@@ -336,7 +358,7 @@ pub fn changed_run(run: Run, s: &[u8]) -> Run {
 }
 
 // An order with the changes made that the lines name.
-pub fn changed_order(order: Order, s: &[u8]) -> Order {
+pub(crate) fn changed_order(order: Order, s: &[u8]) -> Order {
     let mut r = order;
     let mut at: usize = 0;
     while at < s.len() {

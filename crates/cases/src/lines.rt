@@ -1,16 +1,15 @@
 // The text of a file of cases: its lines and parts, the bytes that a line stands for, and its numbers.
-use text::ByteClass;
 ghost use Prim.Native.Nat.{_+_, _≤_, min};
 ghost use lib.ListN.{length};
 
 // How many bytes a part of a case stands for, or that it cannot be read.
-pub enum Decoded {
+pub(crate) enum Decoded {
     Bytes(usize),
     Unreadable,
 }
 
 // The part of a text between two positions; an empty one where they do not stand in the text, the first before the second.
-pub fn part(s: &[u8], from: usize, to: usize) -> &[u8] {
+pub(crate) fn part(s: &[u8], from: usize, to: usize) -> &[u8] {
     if to < from {
         return &s[0..0];
     }
@@ -21,12 +20,12 @@ pub fn part(s: &[u8], from: usize, to: usize) -> &[u8] {
 }
 
 // The front of a buffer.
-pub fn front(buffer: &[u8; 16384], n: usize) -> &[u8] {
+pub(crate) fn front(buffer: &[u8; 16384], n: usize) -> &[u8] {
     part(buffer, 0, n)
 }
 
 // The position behind the first such byte from a position on, or the text's end.
-pub fn behind(s: &[u8], at: usize, b: u8) -> usize
+pub(crate) fn behind(s: &[u8], at: usize, b: u8) -> usize
     ensures { λ r. ⌜ min (at + 1) (length (now (s .entry))) ≤ r ⌝ }
 {
     let mut i = at;
@@ -40,7 +39,7 @@ pub fn behind(s: &[u8], at: usize, b: u8) -> usize
 }
 
 // Where the given line stands from the line at a position on, or the text's end.
-pub fn line_at(s: &[u8], from: usize, line: &[u8]) -> usize {
+pub(crate) fn line_at(s: &[u8], from: usize, line: &[u8]) -> usize {
     let mut i = from;
     while i < s.len() {
         if text::begins_at(s, i, line) {
@@ -51,15 +50,24 @@ pub fn line_at(s: &[u8], from: usize, line: &[u8]) -> usize {
     i
 }
 
+// The value of a hexadecimal digit; 16 where it is none.
+fn hex_digit(b: u8) -> u8 {
+    match b {
+        48..=57 => b - 48,
+        97..=102 => b - 87,
+        _ => 16,
+    }
+}
+
 // The decimal number at a position, as far as it has digits and fits; 0 where there is none.
-pub fn number(s: &[u8], at: usize) -> u32 {
+pub(crate) fn number(s: &[u8], at: usize) -> u32 {
     let mut v: u64 = 0;
     let mut i = at;
     while i < s.len() {
-        let c = text::class_of(s[i]);
-        let ByteClass::Digit(d) = c else {
+        let d = hex_digit(s[i]);
+        if 9 < d {
             return v as u32;
-        };
+        }
         let more = v * 10 + d as u64;
         if 4294967295 < more {
             return v as u32;
@@ -82,15 +90,6 @@ enum Step {
     Byte(u8),
     Reading(Escape),
     Wrong,
-}
-
-// The value of a hexadecimal digit; 16 where it is none.
-fn hex_digit(b: u8) -> u8 {
-    match b {
-        48..=57 => b - 48,
-        97..=102 => b - 87,
-        _ => 16,
-    }
 }
 
 // A backslash begins an escape; before a line's end it takes that end away, and before two digits it stands for their byte.
@@ -123,7 +122,7 @@ fn read_byte(escape: Escape, b: u8) -> Step {
 }
 
 // Writes the bytes that a part of a case stands for.
-pub fn decode(s: &[u8], out: &mut [u8; 16384]) -> Decoded {
+pub(crate) fn decode(s: &[u8], out: &mut [u8; 16384]) -> Decoded {
     let mut escape = Escape::Outside;
     let mut n: usize = 0;
     let mut i: usize = 0;

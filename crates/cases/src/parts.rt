@@ -35,6 +35,35 @@ pub struct Case {
     pub end: usize,
 }
 
+// The operation of the engine that the line at a position names.
+fn engine_at(s: &[u8], at: usize) -> Operation {
+    if text::begins_at(s, at, b"replay ") {
+        return Operation::Replay;
+    }
+    if text::begins_at(s, at, b"replayvalue ") {
+        return Operation::ReplayValue;
+    }
+    if text::begins_at(s, at, b"round ") {
+        return Operation::Round;
+    }
+    if text::begins_at(s, at, b"roundvalue ") {
+        return Operation::RoundValue;
+    }
+    if text::begins_at(s, at, b"timetable ") {
+        return Operation::Timetable;
+    }
+    if text::begins_at(s, at, b"timetablevalue ") {
+        return Operation::TimetableValue;
+    }
+    if text::begins_at(s, at, b"process ") {
+        return Operation::Process;
+    }
+    if text::begins_at(s, at, b"processvalue ") {
+        return Operation::ProcessValue;
+    }
+    Operation::Unknown
+}
+
 // The operation that the line at a position names.
 fn operation_at(s: &[u8], at: usize) -> Operation {
     if text::begins_at(s, at, b"net ") {
@@ -61,31 +90,7 @@ fn operation_at(s: &[u8], at: usize) -> Operation {
     if text::begins_at(s, at, b"readorder ") {
         return Operation::ReadOrder;
     }
-    if text::begins_at(s, at, b"replay ") {
-        return Operation::Replay;
-    }
-    if text::begins_at(s, at, b"replayvalue ") {
-        return Operation::ReplayValue;
-    }
-    if text::begins_at(s, at, b"round ") {
-        return Operation::Round;
-    }
-    if text::begins_at(s, at, b"roundvalue ") {
-        return Operation::RoundValue;
-    }
-    if text::begins_at(s, at, b"timetable ") {
-        return Operation::Timetable;
-    }
-    if text::begins_at(s, at, b"timetablevalue ") {
-        return Operation::TimetableValue;
-    }
-    if text::begins_at(s, at, b"process ") {
-        return Operation::Process;
-    }
-    if text::begins_at(s, at, b"processvalue ") {
-        return Operation::ProcessValue;
-    }
-    Operation::Unknown
+    engine_at(s, at)
 }
 
 // Whether a line `with` parts what an operation reads.
@@ -124,7 +129,7 @@ fn line_before(s: &[u8], from: usize, line: &[u8], wanted: bool, end: usize) -> 
 }
 
 // The case whose second line stands at a position.
-pub fn case_at(s: &[u8], at: usize) -> Case {
+pub(crate) fn case_at(s: &[u8], at: usize) -> Case {
     let operation = operation_at(s, at);
     let input = lines::behind(s, at, 10);
     let expect = lines::line_at(s, input, b"expect\n");
@@ -141,21 +146,21 @@ pub fn case_at(s: &[u8], at: usize) -> Case {
 }
 
 // The text of what is read first.
-pub fn input_of(s: &[u8], case: Case) -> &[u8] {
+pub(crate) fn input_of(s: &[u8], case: Case) -> &[u8] {
     lines::part(s, case.input, case.with)
 }
 
 // The lines that change what was read.
-pub fn changes_of(s: &[u8], case: Case) -> &[u8] {
+pub(crate) fn changes_of(s: &[u8], case: Case) -> &[u8] {
     lines::part(s, lines::behind(s, case.with, 10), case.card)
 }
 
 // The text of the card that is read for what was read and changed.
-pub fn card_of(s: &[u8], case: Case) -> &[u8] {
+pub(crate) fn card_of(s: &[u8], case: Case) -> &[u8] {
     lines::part(s, lines::behind(s, case.card, 10), case.expect)
 }
 
 // The text of what is expected.
-pub fn expected_of(s: &[u8], case: Case) -> &[u8] {
+pub(crate) fn expected_of(s: &[u8], case: Case) -> &[u8] {
     lines::part(s, lines::behind(s, case.expect, 10), case.end)
 }

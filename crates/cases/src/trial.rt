@@ -95,26 +95,26 @@ fn put_reply(got: &mut [u8; 16384], r: Reply, out: &[u8]) -> usize {
 
 // A run card read for a net, and the run written.
 fn run_of(net: Net, card: &[u8], out: &mut [u8]) -> Reply {
-    let r = cards::read_run(net, card);
+    let r = run_card::read_run(net, card);
     let read = r.read;
     match read {
         LineRead::Stopped(why) => Reply::Refused(why),
         LineRead::Next(_) => {
             let timed = r.run;
-            cards::write_run(net, timed, out)
+            run_card::write_run(net, timed, out)
         }
     }
 }
 
 // An order card read for a net, and the order written.
 fn order_of(net: Net, card: &[u8], out: &mut [u8]) -> Reply {
-    let r = cards::read_order(net, card);
+    let r = run_card::read_order(net, card);
     let read = r.read;
     match read {
         LineRead::Stopped(why) => Reply::Refused(why),
         LineRead::Next(_) => {
             let untimed = r.order;
-            cards::write_order(net, untimed, out)
+            run_card::write_order(net, untimed, out)
         }
     }
 }
@@ -124,7 +124,7 @@ fn of_net(operation: Operation, net: Net, card: &[u8], out: &mut [u8]) -> Reply 
     match operation {
         Operation::ReadRun => run_of(net, card, out),
         Operation::ReadOrder => order_of(net, card, out),
-        _ => net::write_net(net, out),
+        _ => net_card::write_net(net, out),
     }
 }
 
@@ -136,7 +136,7 @@ fn net_reply(
     card: &[u8],
     out: &mut [u8],
 ) -> Reply {
-    let n = net::read_net(input);
+    let n = net_card::read_net(input);
     let read = n.read;
     match read {
         LineRead::Stopped(why) => Reply::Refused(why),
@@ -153,19 +153,21 @@ fn of_run(operation: Operation, net: Net, timed: Run, out: &mut [u8]) -> Reply {
         Operation::ReplayValue => engine::replay(net, timed, out),
         Operation::RoundValue => engine::round(net, timed, out),
         Operation::ProcessValue => engine::process(net, timed, out),
-        _ => cards::write_run(net, timed, out),
+        _ => run_card::write_run(net, timed, out),
     }
 }
 
 // A net card and a run card read and changed as values.
 fn run_reply(operation: Operation, input: &[u8], changes: &[u8], out: &mut [u8]) -> Reply {
-    let both = cards::read_run_cards(input);
-    let read = both.read;
+    let n = net_card::read_net(input);
+    let net = n.net;
+    let first = n.read;
+    let behind = run_card::run_behind(input, first, net.transitions);
+    let read = behind.read;
     match read {
         LineRead::Stopped(why) => Reply::Refused(why),
         LineRead::Next(_) => {
-            let net = both.net;
-            let timed = both.run;
+            let timed = behind.run;
             let net_value = change::changed_net(net, changes);
             of_run(
                 operation,
@@ -181,19 +183,21 @@ fn run_reply(operation: Operation, input: &[u8], changes: &[u8], out: &mut [u8])
 fn of_order(operation: Operation, net: Net, untimed: Order, out: &mut [u8]) -> Reply {
     match operation {
         Operation::TimetableValue => engine::timetable(net, untimed, out),
-        _ => cards::write_order(net, untimed, out),
+        _ => run_card::write_order(net, untimed, out),
     }
 }
 
 // A net card and an order card read and changed as values.
 fn order_reply(operation: Operation, input: &[u8], changes: &[u8], out: &mut [u8]) -> Reply {
-    let both = cards::read_order_cards(input);
-    let read = both.read;
+    let n = net_card::read_net(input);
+    let net = n.net;
+    let first = n.read;
+    let behind = run_card::order_behind(input, first, net.transitions);
+    let read = behind.read;
     match read {
         LineRead::Stopped(why) => Reply::Refused(why),
         LineRead::Next(_) => {
-            let net = both.net;
-            let untimed = both.order;
+            let untimed = behind.order;
             let net_value = change::changed_net(net, changes);
             of_order(
                 operation,
@@ -234,7 +238,9 @@ fn reply_of(
 fn put_left(got: &mut [u8; 16384], at: usize, operation: Operation, input: &[u8]) -> usize {
     match operation {
         Operation::Net => {
-            let rest = net::remainder(input);
+            let n = net_card::read_net(input);
+            let read = n.read;
+            let rest = net_card::remainder(input, read);
             put_line(got, at, b"left=", rest.len() as u64)
         }
         _ => at,
@@ -294,7 +300,7 @@ fn readable(s: &[u8], case: Case) -> bool {
 }
 
 // Runs a case; what it got, as text.
-pub fn outcome(s: &[u8], case: Case, got: &mut [u8; 16384]) -> Decoded {
+pub(crate) fn outcome(s: &[u8], case: Case, got: &mut [u8; 16384]) -> Decoded {
     if !readable(s, case) {
         return Decoded::Unreadable;
     }

@@ -1,12 +1,5 @@
-pub mod CountSlots
-pub mod Elements
-pub mod EventLaws
-pub mod FreeLoop
-pub mod LineLoop
-pub mod Listing
+pub mod Events
 pub mod Longest
 pub mod Neighbours
-pub mod ProcessLoop
 pub mod Queues
-pub mod TakeLoop
 pub mod Tokens

@@ -3,17 +3,15 @@
 use Prim.Native.Nat.{ℕ, zero, suc, _+_, _-_, _*_, _≤_, _<_, min}
 use native.Mathlib.Nat.{mul-le-mul, min-eq-left, min-eq-right, sub-eq-zero-of-le}
 use native.Mathlib.Omega.{arith}
-use mathlib.Core.Path.{_≡_, refl}
+use mathlib.Core.Path.{_≡_, refl, _∙_}
 use mathlib.Core.Bool.{Bool, true, false, cond}
 use mathlib.Core.Logic.{⊎-elim}
 use mathlib.Core.List.{List, [], _∷_, _++_, map}
-use lib.Dec.{eqb, lit<, lit≤}
+use lib.Dec.{eqb, lit≤}
 use lib.ListN.{length, getD, take, drop, length-append, length-map, length-drop}
 use borrow.Author.Tests.{eqb-true, eqb-false}
-use Rattle.laws.specs.Each.{Each, each-map, each-mapped, each-zip}
-use Rattle.laws.specs.EachAt.{each-of}
-use Rattle.laws.specs.Slots.{getD-first}
-use Rattle.laws.specs.Sum.{le-or-lt}
+use Rattle.laws.specs.Each.{Each, each-map, each-mapped, each-zip, each-of}
+use Rattle.laws.specs.Sums.{le-or-lt}
 use Rattle.reply.specs.declared.Checked.the-variants.{Passed}
 use Rattle.text.specs.Decimal.{decimal, field}
 use Rattle.text.specs.Key.{bytes}
@@ -21,10 +19,10 @@ use Rattle.text.specs.Number.{separator}
 use Rattle.text.proofs.DecimalLaws.{digits-few}
 use Rattle.form.proofs.Found.{also-first, also-second}
 use Rattle.net.specs.declared.Net.{Net}
-use Rattle.firing.specs.Semantics.{takes, gives, startMarking, after}
-use Rattle.firing.proofs.Clocks.{enabled-listed, bounded-true}
-use Rattle.timing.specs.Windows.{tokensJudged, tokens}
-use Rattle.timing.specs.Rounding.{markingAfter}
+use Rattle.firing.specs.Semantics.{arcsOf, takes, gives, startMarking, after}
+use Rattle.firing.specs.Tokens.{tokensJudged, tokens, markingAfter}
+use Rattle.firing.proofs.Clocks.{few-places, few-transitions, enabled-listed, length-after, limited-true}
+use Rattle.firing.proofs.Accept.{length-start, start-at}
 use Rattle.timing.proofs.Meet.{tokens-passed}
 use Rattle.timing.proofs.Order.{tokens-prefix}
 use Rattle.causal.specs.Process.{Queues, Item, Event, oldest, without, startQueues, takenBy, queuesAfter, itemsFrom, itemsOf}
@@ -89,15 +87,15 @@ module _ (net : Net) where
         items-next (takenBy net queues t) n,
         items-next (queuesAfter net queues t) n,
         items-next queues n,
-        filled-cut (takes net t n) (queues n),
-        filled-more (without (takes net t n) (queues n)) (gives net t n),
+        filled-cut (takes (arcsOf net) t n) (queues n),
+        filled-more (without (takes (arcsOf net) t n) (queues n)) (gives (arcsOf net) t n),
       )
 
-  items-all : (order : List ℕ) (queues : Queues) → itemsIn (eventsFrom net order queues) + length (itemsOf (queuesBehind net order queues) (net .places))
-      ≤ length (itemsOf queues (net .places)) + 2 * (net .places * length order)
+  items-all : (order : List ℕ) (queues : Queues) → itemsIn (eventsFrom net order queues) + length (itemsOf (queuesBehind net order queues) (arcsOf net .places))
+      ≤ length (itemsOf queues (arcsOf net .places)) + 2 * (arcsOf net .places * length order)
   unfolding eventsFrom queuesBehind
   items-all [] queues = omega arith
-  items-all (t ∷ order) queues = omega (arith, items-all order (queuesAfter net queues t), items-cut queues t (net .places))
+  items-all (t ∷ order) queues = omega (arith, items-all order (queuesAfter net queues t), items-cut queues t (arcsOf net .places))
 
   items-start : (n : ℕ) → length (itemsOf (startQueues net) n) ≤ n
   unfolding itemsOf
@@ -204,43 +202,44 @@ free-short es l =
     )
 
 -- ---- where the tokens allow the order, no number is large
-holds-few : (net : Net) (order m : List ℕ) (n p : ℕ) → tokens net order m n ≡ Passed → getD m p 0 ≤ 255 → getD (markingAfter net m order) p 0 ≤ 255
+pub holds-few : (net : Net) (order m : List ℕ) (n p : ℕ) → length m ≡ 16 → p < arcsOf net .places → tokens net order m n ≡ Passed → getD m p 0 ≤ 255
+    → getD (markingAfter net m order) p 0 ≤ 255
 unfolding tokens markingAfter
-holds-few net [] m n p e h = h
-holds-few net (t ∷ order) m n p e h =
+holds-few net [] m n p long l e h = h
+holds-few net (t ∷ order) m n p long l e h =
     let here = tokensJudged net m t (n + 1) in
-    let rest = tokens net order (after net m t) (n + 1) in
-    let few = bounded-true net m t .0 (tokens-passed net m t (n + 1) (also-first here rest e) .1) in
-    holds-few net order (after net m t) (n + 1) p (also-second here rest e) (few p)
+    let rest = tokens net order (after (arcsOf net) m t) (n + 1) in
+    let few = limited-true (arcsOf net) m t (omega (arith, few-places net)) .0 (tokens-passed net m t (n + 1) (also-first here rest e) .1) in
+    holds-few net order (after (arcsOf net) m t) (n + 1) p (length-after (arcsOf net) m t ∙ long) l (also-second here rest e) (few p l)
 
-module _ (net : Net) (order : List ℕ) (narrow : net .places ≤ 16) (listed : net .transitions ≤ 32) (brief : length order ≤ 64)
-    (start : (p : ℕ) → p < net .places → getD (net .start) p 0 ≤ 255) (allowed : tokens net order (startMarking net) 0 ≡ Passed) where
+module _ (net : Net) (order : List ℕ) (brief : length order ≤ 64) (start : (p : ℕ) → p < arcsOf net .places → getD (net .start) p 0 ≤ 255)
+    (allowed : tokens net order (startMarking net) 0 ≡ Passed) where
   stands-few : (part : List ℕ) → tokens net part (startMarking net) 0 ≡ Passed
-      → (p i : ℕ) → p < net .places → getD (queuesBehind net part (startQueues net) p) i 0 ≤ 255
-  unfolding startMarking
+      → (p i : ℕ) → p < arcsOf net .places → getD (queuesBehind net part (startQueues net) p) i 0 ≤ 255
   stands-few part e p i l =
       omega (
         arith,
         entry-total (queuesBehind net part (startQueues net) p) i,
         start-sums net p part l,
-        holds-few net part (startMarking net) 0 p e (omega (arith, start p l, getD-first (net .places) 0 (net .start) p l)),
+        holds-few net part (startMarking net) 0 p (length-start net) l e (omega (arith, start p l, start-at net p l)),
       )
 
   abbrev Few : Item → Type 0
   Few x = x .count ≤ 255
 
   few-small : (k : ℕ) → k ≤ 64 → (items : List Item) → Each (Produced net order k) items → Each Few items → Each Small items
-  few-small k b = each-zip {P = Produced net order k} {Q = Few} {R = Small} (λ x a c. (omega (arith, a .in-net), omega (arith, a .earlier), omega arith))
+  few-small k b = each-zip {P = Produced net order k} {Q = Few} {R = Small}
+      (λ x a c. (omega (arith, a .in-net, few-places net), omega (arith, a .earlier), omega arith))
 
   from-small : (i : ℕ) → i < length order → Each Small (fromAt net order i)
   from-small i l =
       let queues = queuesAt net order i in
       let t = getD order i 0 in
       few-small i (omega arith) (fromAt net order i) (from-earlier net order i l)
-      (rw (from-items net order i l) (each-items Few (takenBy net queues t) (net .places) (λ p j b c.
+      (rw (from-items net order i l) (each-items Few (takenBy net queues t) (arcsOf net .places) (λ p j b c.
       omega (
         arith,
-        cut-entry (takes net t p) (queues p) j,
+        cut-entry (takes (arcsOf net) t p) (queues p) j,
         stands-few (take i order) (tokens-prefix net i order (startMarking net) 0 allowed) p j b,
       ))))
 
@@ -248,7 +247,7 @@ module _ (net : Net) (order : List ℕ) (narrow : net .places ≤ 16) (listed : 
   unfolding left
   left-small =
       few-small (length order) brief (left net order) (left-earlier net order)
-      (each-items Few (queuesBehind net order (startQueues net)) (net .places) (λ p j b c. stands-few order allowed p j b))
+      (each-items Few (queuesBehind net order (startQueues net)) (arcsOf net .places) (λ p j b c. stands-few order allowed p j b))
 
   events-small : Each SmallEvent (events net order)
   events-small =
@@ -257,18 +256,20 @@ module _ (net : Net) (order : List ℕ) (narrow : net .places ≤ 16) (listed : 
         omega (
           arith,
           event-fires net order i l,
-          enabled-listed net (markingAfter net (startMarking net) (take i order)) (getD order i 0) (allowed-enabled net order (startMarking net) 0 i allowed l),
+          enabled-listed (arcsOf net) (markingAfter net (startMarking net) (take i order)) (getD order i 0)
+              (allowed-enabled net order (startMarking net) 0 i allowed l),
+          few-transitions net,
         ),
         from-small i l,
       ))
 
   items-few : itemsIn (events net order) + length (left net order) ≤ 2064
   unfolding events left
-  items-few = omega (arith, items-all net order (startQueues net), items-start net (net .places), mul-le-mul narrow brief)
+  items-few = omega (arith, items-all net order (startQueues net), items-start net (arcsOf net .places), mul-le-mul (few-places net) brief)
 
-  pub process-short : length (processText net order) ≤ 22001
+  pub process-text-short : length (processText net order) ≤ 22001
   unfolding processText
-  process-short =
+  process-text-short =
       let es = events net order in
       let first = eventsText es in
       let second = listText (map itemText (left net order)) in

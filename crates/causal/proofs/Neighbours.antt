@@ -13,6 +13,7 @@ use lib.Seq.{getD-drop}
 use borrow.Author.Tests.{eqb-false, ne-eqb}
 use Rattle.laws.specs.Each.{Each}
 use Rattle.net.specs.declared.Net.{Net}
+use Rattle.firing.specs.Semantics.{arcsOf}
 use Rattle.causal.specs.Process.{Item, Event, takenBy, events}
 use Rattle.causal.specs.Free.{tookFrom, freeFrom, free}
 use Rattle.causal.specs.Claims.{producedBy, noEvent, fromAt}
@@ -87,7 +88,7 @@ module _ (i : ℕ) where
 module _ (net : Net) (order : List ℕ) (i : ℕ) where
   -- firing i + 1 exists and took no token of firing i
   abbrev Free : Type 0
-  Free = (1 ≤ i) × (i < length order) × ((p : ℕ) → p < net .places → producedBy i p (fromAt net order i) ≡ 0)
+  Free = (1 ≤ i) × (i < length order) × ((p : ℕ) → p < arcsOf net .places → producedBy i p (fromAt net order i) ≡ 0)
 
   behind : (k : ℕ) → i ≡ 1 + k → getD (drop 1 (events net order)) k noEvent ≡ getD (events net order) i noEvent
   behind k e = getD-drop 1 (events net order) k noEvent ∙ ap (λ (j : ℕ). getD (events net order) j noEvent) (sym e)
@@ -106,13 +107,14 @@ module _ (net : Net) (order : List ℕ) (i : ℕ) where
       let taken = takenBy net (queuesAt net order i) (getD order i 0) in
       let items = from-items net order i (h .1) in
       let none : Each (Other i) (fromAt net order i) =
-      rw items (each-items (Other i) taken (net .places) (λ p k b c same.
-      omega (arith, h .2 p b, ap (producedBy i p) items, produced-items i p taken (net .places) b, ap (λ (j : ℕ). getD (taken p) j 0) same))) in
+      rw items (each-items (Other i) taken (arcsOf net .places) (λ p k b c same.
+      omega (arith, h .2 p b, ap (producedBy i p) items, produced-items i p taken (arcsOf net .places) b, ap (λ (j : ℕ). getD (taken p) j 0) same))) in
       let number : i ≡ 1 + (i - 1) = omega (arith, h .0) in
       is-listed i 1 (i - 1) (drop 1 (events net order)) (omega (arith, h .0, h .1, behind-length)) number
       (rw (behind (i - 1) number) (none-took i (fromAt net order i) none))
 
   -- i is in the list exactly then
-  pub free-exactly : Has i (free (events net order)) ↔ ((1 ≤ i) × (i < length order) × ((p : ℕ) → p < net .places → producedBy i p (fromAt net order i) ≡ 0))
+  pub free-exactly : Has i (free (events net order)) ↔ ((1 ≤ i) × (i < length order)
+      × ((p : ℕ) → p < arcsOf net .places → producedBy i p (fromAt net order i) ≡ 0))
   unfolding free
   free-exactly = (listed-free, free-listed)

@@ -11,7 +11,7 @@ use lib.Dec.{eqb}
 use lib.ListN.{length, getD, List·getD-eq-default}
 use borrow.Author.Tests.{eqb-true, eqb-false, eq-eqb, ne-eqb}
 use Rattle.laws.specs.Each.{Each}
-use Rattle.laws.specs.Sum.{le-or-lt}
+use Rattle.laws.specs.Sums.{le-or-lt}
 use Rattle.causal.specs.Process.{Queues, Item, oldest, without, itemsFrom, itemsOf}
 use Rattle.causal.specs.Claims.{tokensOf, producedBy, Before, Ascending}
 

@@ -8,7 +8,7 @@ use lib.Dec.{eqb}
 use lib.ListN.{getD}
 use Rattle.laws.specs.Each.{Each}
 use Rattle.net.specs.declared.Net.{Net}
-use Rattle.firing.specs.Semantics.{gives}
+use Rattle.firing.specs.Semantics.{arcsOf, gives}
 use Rattle.causal.specs.Process.{Item, Event, events}
 
 -- the tokens of place p among items
@@ -29,7 +29,7 @@ takenOf i p (e ∷ later) = producedBy i p (e .from) + takenOf i p later
 -- the tokens that producer i gives to place p: those of the start, or of firing i
 abbrev pub givenBy : Net → List ℕ → ℕ → ℕ → ℕ
 givenBy net order zero p = getD (net .start) p 0
-givenBy net order (suc i) p = gives net (getD order i 0) p
+givenBy net order (suc i) p = gives (arcsOf net) (getD order i 0) p
 
 -- the items that a firing takes, with i firings before it
 abbrev pub noEvent : Event
@@ -48,11 +48,11 @@ pub data Ascending : List Item → Type 0 where
 
 -- an item of a firing with k firings before it: some tokens of a place, given by the start or by one of those firings
 pub record Produced (net : Net) (order : List ℕ) (k : ℕ) (x : Item) : Type 0 where
-  pub in-net : x .place < net .places
+  pub in-net : x .place < arcsOf net .places
   pub earlier : x .producer ≤ k
   pub some : 0 < x .count
   pub given : x .count ≤ givenBy net order (x .producer) (x .place)
 
 -- where both are of one place, the tokens of x came no later than those of y
-abbrev pub NotAfter : Item → Item → Type 0
-NotAfter x y = x .place ≡ y .place → x .producer ≤ y .producer
+abbrev pub CameNoLater : Item → Item → Type 0
+CameNoLater x y = x .place ≡ y .place → x .producer ≤ y .producer

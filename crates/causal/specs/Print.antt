@@ -33,4 +33,5 @@ eventsText (e ∷ later) = eventText e ++ eventsText later
 -- the process of an order
 unfoldable pub processText : Net → List ℕ → List ℕ
 processText net order =
-    eventsText (events net order) ++ bytes "left=" ++ listText (map itemText (left net order)) ++ bytes "free=" ++ listText (map decimal (free (events net order)))
+    eventsText (events net order) ++ bytes "left=" ++ listText (map itemText (left net order))
+    ++ bytes "free=" ++ listText (map decimal (free (events net order)))

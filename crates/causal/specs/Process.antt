@@ -5,7 +5,7 @@ use mathlib.Core.List.{List, [], _∷_, _++_}
 use lib.Dec.{eqb}
 use lib.ListN.{getD}
 use Rattle.net.specs.declared.Net.{Net}
-use Rattle.firing.specs.Semantics.{takes, gives}
+use Rattle.firing.specs.Semantics.{arcsOf, takes, gives}
 
 -- The queue of a place, oldest tokens first: how many remain of those that the start gave, that firing 1 gave, that firing 2 gave, ..
 
@@ -29,10 +29,10 @@ startQueues net p = getD (net .start) p 0 ∷ []
 
 -- what a firing of t takes, and what it leaves: tokens taken leave, then tokens given arrive
 abbrev pub takenBy : Net → Queues → ℕ → Queues
-takenBy net queues t p = oldest (takes net t p) (queues p)
+takenBy net queues t p = oldest (takes (arcsOf net) t p) (queues p)
 
 abbrev pub queuesAfter : Net → Queues → ℕ → Queues
-queuesAfter net queues t p = without (takes net t p) (queues p) ++ (gives net t p ∷ [])
+queuesAfter net queues t p = without (takes (arcsOf net) t p) (queues p) ++ (gives (arcsOf net) t p ∷ [])
 
 -- tokens of one place that have one producer
 pub record Item : Type 0 where
@@ -58,7 +58,8 @@ pub record Event : Type 0 where
 -- the firings of an order from queues on, and the queues behind them
 unfoldable pub eventsFrom : Net → List ℕ → Queues → List Event
 eventsFrom net [] queues = []
-eventsFrom net (t ∷ order) queues = record { fire = t; from = itemsOf (takenBy net queues t) (net .places) } ∷ eventsFrom net order (queuesAfter net queues t)
+eventsFrom net (t ∷ order) queues =
+    record { fire = t; from = itemsOf (takenBy net queues t) (arcsOf net .places) } ∷ eventsFrom net order (queuesAfter net queues t)
 
 unfoldable pub queuesBehind : Net → List ℕ → Queues → Queues
 queuesBehind net [] queues = queues
@@ -69,4 +70,4 @@ unfoldable pub events : Net → List ℕ → List Event
 events net order = eventsFrom net order (startQueues net)
 
 unfoldable pub left : Net → List ℕ → List Item
-left net order = itemsOf (queuesBehind net order (startQueues net)) (net .places)
+left net order = itemsOf (queuesBehind net order (startQueues net)) (arcsOf net .places)

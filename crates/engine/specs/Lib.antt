@@ -1,6 +1,2 @@
-pub mod Claims
-pub mod Operation
-pub mod Process
-pub mod Replay
-pub mod Round
-pub mod Timetable
+pub mod Clocks
+pub mod Counts

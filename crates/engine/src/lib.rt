@@ -1,70 +1,65 @@
 // The operations of the engine: over values, and over the bytes of cards.
+mod end_text;
+mod process_text;
+
 use firing::State;
 use form::LineRead;
 use net::Net;
 use reply::Checked;
-use reply::Refusal;
 use reply::Reply;
 use run::Order;
 use run::Run;
 ghost use mathlib.Core.Path.{_≡_};
-ghost use mathlib.Core.Bool.{true, cond};
-ghost use mathlib.Core.List.{_++_};
-ghost use Prim.Native.Nat.{ℕ, _+_, _-_, _≤_, _<_};
-ghost use lib.ListN.{length, getD};
-ghost use Rattle.laws.specs.Splice.{Wrote};
+ghost use Prim.Native.Nat.{_≤_};
+ghost use lib.ListN.{length};
 ghost use Rattle.reply.specs.declared.Checked.the-variants.{Passed};
 ghost use Rattle.reply.specs.Respond.{answer, Responded};
-ghost use Rattle.text.specs.Key.{bytes};
-ghost use Rattle.text.specs.Decimal.{field};
-ghost use Rattle.run.specs.Run.{runCard};
-ghost use Rattle.firing.specs.Rows.{standing};
+ghost use Rattle.run.specs.Run.{runCard, firingsOf, orderOf};
+ghost use Rattle.firing.specs.Semantics.{startMarking};
+ghost use Rattle.firing.specs.Tokens.{tokens};
+ghost use Rattle.causal.specs.Print.{processText};
 ghost use Rattle.cards.specs.Cards.{runChecked, orderChecked};
-ghost use Rattle.engine.specs.Replay.{clocksText, endText, replayOf, replayValues, replayCards};
-ghost use Rattle.engine.specs.Round.{roundOf, roundValues, roundCards};
-ghost use Rattle.engine.specs.Process.{processOf, processValues, processCards};
-ghost use Rattle.engine.specs.Timetable.{timetableOf, timetableValues, timetableCards};
+ghost use Rattle.operations.specs.Replay.{endText, replayOf, replayValues, replayCards};
+ghost use Rattle.operations.specs.Round.{roundOf, roundValues, roundCards};
+ghost use Rattle.operations.specs.Process.{processOf, processValues, processCards};
+ghost use Rattle.operations.specs.Timetable.{timetableOf, timetableValues, timetableCards};
 
-// The line of a clock written to a position; the position behind it.
-fn put_clock(out: &mut [u8], at: usize, on: bool, clock: u64) -> usize
-    requires { ⌜ at + length (bytes "clock=" ++ cond on (field clock true) (bytes "off\n")) ≤ length (now out) ⌝ }
-    ensures { λ r. ⌜ Wrote (now (out .entry)) at (bytes "clock=" ++ cond on (field clock true) (bytes "off\n")) r (now (out .exit)) ⌝ }
+// The card of a run as the answer, made in a buffer where the output might be too short for it.
+fn respond_run(run: Run, out: &mut [u8]) -> Reply
+    requires { ⌜ length (runCard 0 .text run) ≤ 2048 ⌝ }
+    ensures { λ r. ⌜ Responded (answer (runCard 0 .text run)) (now (out .entry)) r (now (out .exit)) ⌝ }
 {
-    let to = text::put_bytes(&mut *out, at, b"clock=");
-    if on {
-        text::put_field(&mut *out, to, clock, true)
-    } else {
-        text::put_bytes(&mut *out, to, b"off\n")
+    if 2048 <= out.len() {
+        return Reply::Written(run_card::put_run(out, 0, run));
     }
+    let mut card = [0u8; 2048];
+    let n = run_card::put_run(&mut card, 0, run);
+    reply::respond(&card[..n], out)
 }
 
-// The lines of all clocks written to a position; the position behind them.
-fn put_clocks(out: &mut [u8], at: usize, net: Net, st: State) -> usize
-    requires { ⌜ (net .places ≤ 16) × (net .transitions ≤ 32) × ((u : ℕ) → u < net .transitions → getD (st .since) u 0 ≤ st .now) ⌝ }
-    requires { ⌜ at + length (clocksText net (standing (net .places) (net .transitions) st) (net .transitions)) ≤ length (now out) ⌝ }
-    ensures { λ r. ⌜ Wrote (now (out .entry)) at (clocksText net (standing (net .places) (net .transitions) st) (net .transitions)) r (now (out .exit)) ⌝ }
+// The end of a replay as the answer.
+fn respond_end(net: Net, st: State, out: &mut [u8]) -> Reply
+    ensures { λ r. ⌜ Responded (answer (endText net st)) (now (out .entry)) r (now (out .exit)) ⌝ }
 {
-    let transitions = net.transitions;
-    let flags = firing::enabled_flags(net, st);
-    let since = st.since;
-    let now = st.now;
-    let mut to = at;
-    let mut u: usize = 0;
-    while u < transitions {
-        to = put_clock(&mut *out, to, flags[u], now - since[u]);
-        u += 1;
+    if 1280 <= out.len() {
+        return Reply::Written(end_text::put_end(out, net, st));
     }
-    to
+    let mut text = [0u8; 1280];
+    let n = end_text::put_end(&mut text, net, st);
+    reply::respond(&text[..n], out)
 }
 
-// The end of a replay written to a position; the position behind it.
-fn put_end(out: &mut [u8], net: Net, st: State) -> usize
-    requires { ⌜ (net .places ≤ 16) × (net .transitions ≤ 32) × ((u : ℕ) → u < net .transitions → getD (st .since) u 0 ≤ st .now) × (length (endText net (standing (net .places) (net .transitions) st)) ≤ length (now out)) ⌝ }
-    ensures { λ r. ⌜ Wrote (now (out .entry)) 0 (endText net (standing (net .places) (net .transitions) st)) r (now (out .exit)) ⌝ }
+// The process of a run as the answer.
+fn respond_process(net: Net, run: Run, out: &mut [u8]) -> Reply
+    requires { ⌜ (tokens net (orderOf (firingsOf run)) (startMarking net) 0 ≡ Passed) × (length (processText net (orderOf (firingsOf run))) ≤ 22001) ⌝ }
+    ensures { λ r. ⌜ Responded (answer (processText net (orderOf (firingsOf run)))) (now (out .entry)) r (now (out .exit)) ⌝ }
 {
-    let marking = st.marking;
-    let to = form::put_items_line(&mut *out, 0, b"end=", marking, net.places);
-    put_clocks(&mut *out, to, net, st)
+    if 22001 <= out.len() {
+        return Reply::Written(process_text::put_process(out, 0, net, run));
+    }
+    let mut text = [0u8; 22001];
+    let n = process_text::put_process(&mut text, 0, net, run);
+    reply::respond(&text[..n], out)
 }
 
 // The replay of a run that passed its check.
@@ -72,16 +67,14 @@ fn replay_checked(net: Net, run: Run, out: &mut [u8]) -> Reply
     requires { ⌜ runChecked net run ≡ Passed ⌝ }
     ensures { λ r. ⌜ Responded (replayOf net run) (now (out .entry)) r (now (out .exit)) ⌝ }
 {
-    let p = firing::play_run(net, run);
+    let p = steps::play(net, run);
     let c = p.checked;
     match c {
         Checked::Refused(r) => Reply::Refused(r),
         Checked::Passed => {
             let mut st = p.state;
             st.now = st.now + run.rest as u64;
-            let mut text = [0u8; 1280];
-            let n = put_end(&mut text, net, st);
-            reply::respond(&text[..n], out)
+            respond_end(net, st, out)
         }
     }
 }
@@ -90,7 +83,7 @@ fn replay_checked(net: Net, run: Run, out: &mut [u8]) -> Reply
 pub fn replay(net: Net, run: Run, out: &mut [u8]) -> Reply
     ensures { λ r. ⌜ Responded (replayValues net run) (now (out .entry)) r (now (out .exit)) ⌝ }
 {
-    let c = cards::check_run(net, run);
+    let c = run_card::check_run(net, run);
     match c {
         Checked::Refused(r) => Reply::Refused(r),
         Checked::Passed => replay_checked(net, run, out),
@@ -101,26 +94,16 @@ pub fn replay(net: Net, run: Run, out: &mut [u8]) -> Reply
 pub fn replay_cards(input: &[u8], out: &mut [u8]) -> Reply
     ensures { λ r. ⌜ Responded (replayCards (now (input .entry))) (now (out .entry)) r (now (out .exit)) ⌝ }
 {
-    let i = cards::read_run_cards(input);
-    let read = i.read;
+    let n = net_card::read_net(input);
+    let net = n.net;
+    let net_read = n.read;
+    let r = run_card::run_behind(input, net_read, net.transitions);
+    let run = r.run;
+    let read = r.read;
     match read {
-        LineRead::Stopped(r) => Reply::Refused(r),
-        LineRead::Next(_) => {
-            let card = i.net;
-            let timed = i.run;
-            replay_checked(card, timed, out)
-        }
+        LineRead::Stopped(why) => Reply::Refused(why),
+        LineRead::Next(_) => replay_checked(net, run, out),
     }
-}
-
-// The card of a run as the answer. It asks for room in the buffer, which the check of the run gives.
-fn respond_run(run: Run, transitions: usize, out: &mut [u8]) -> Reply
-    requires { ⌜ (run .count ≤ 64) × (0 + length (runCard transitions .text run) ≤ 2048) ⌝ }
-    ensures { λ r. ⌜ Responded (answer (runCard transitions .text run)) (now (out .entry)) r (now (out .exit)) ⌝ }
-{
-    let mut card = [0u8; 2048];
-    let n = run::put_run(&mut card, 0, run, transitions);
-    reply::respond(&card[..n], out)
 }
 
 // The rounding of a run that passed its check.
@@ -128,14 +111,13 @@ fn round_checked(net: Net, run: Run, out: &mut [u8]) -> Reply
     requires { ⌜ runChecked net run ≡ Passed ⌝ }
     ensures { λ r. ⌜ Responded (roundOf net run) (now (out .entry)) r (now (out .exit)) ⌝ }
 {
-    let transitions = net.transitions;
-    let p = firing::play_run(net, run);
+    let p = steps::play(net, run);
     let c = p.checked;
     match c {
         Checked::Refused(r) => Reply::Refused(r),
         Checked::Passed => {
-            let rounded = timing::rounded_run(run);
-            respond_run(rounded, transitions, out)
+            let rounded = schedule::rounded_run(run);
+            respond_run(rounded, out)
         }
     }
 }
@@ -144,7 +126,7 @@ fn round_checked(net: Net, run: Run, out: &mut [u8]) -> Reply
 pub fn round(net: Net, run: Run, out: &mut [u8]) -> Reply
     ensures { λ r. ⌜ Responded (roundValues net run) (now (out .entry)) r (now (out .exit)) ⌝ }
 {
-    let c = cards::check_run(net, run);
+    let c = run_card::check_run(net, run);
     match c {
         Checked::Refused(r) => Reply::Refused(r),
         Checked::Passed => round_checked(net, run, out),
@@ -155,15 +137,15 @@ pub fn round(net: Net, run: Run, out: &mut [u8]) -> Reply
 pub fn round_cards(input: &[u8], out: &mut [u8]) -> Reply
     ensures { λ r. ⌜ Responded (roundCards (now (input .entry))) (now (out .entry)) r (now (out .exit)) ⌝ }
 {
-    let i = cards::read_run_cards(input);
-    let read = i.read;
+    let n = net_card::read_net(input);
+    let net = n.net;
+    let net_read = n.read;
+    let r = run_card::run_behind(input, net_read, net.transitions);
+    let run = r.run;
+    let read = r.read;
     match read {
-        LineRead::Stopped(r) => Reply::Refused(r),
-        LineRead::Next(_) => {
-            let card = i.net;
-            let timed = i.run;
-            round_checked(card, timed, out)
-        }
+        LineRead::Stopped(why) => Reply::Refused(why),
+        LineRead::Next(_) => round_checked(net, run, out),
     }
 }
 
@@ -172,23 +154,13 @@ fn timetable_checked(net: Net, order: Order, out: &mut [u8]) -> Reply
     requires { ⌜ orderChecked net order ≡ Passed ⌝ }
     ensures { λ r. ⌜ Responded (timetableOf net order) (now (out .entry)) r (now (out .exit)) ⌝ }
 {
-    let transitions = net.transitions;
-    let w = timing::collect(net, order);
-    let c = w.checked;
+    let t = schedule::timetable(net, order);
+    let c = t.checked;
     match c {
         Checked::Refused(r) => Reply::Refused(r),
         Checked::Passed => {
-            let origin = w.origin;
-            let low = w.low;
-            let closed = w.closed;
-            let high = w.high;
-            let e = sweep::find_earliest(&origin, &low, &closed, &high, order.count);
-            if e.failed != 0 {
-                return Reply::Refused(Refusal::Untimable(e.failed));
-            }
-            let instants = e.instants;
-            let run = timing::timetable_run(order, instants);
-            respond_run(run, transitions, out)
+            let run = t.run;
+            respond_run(run, out)
         }
     }
 }
@@ -197,7 +169,7 @@ fn timetable_checked(net: Net, order: Order, out: &mut [u8]) -> Reply
 pub fn timetable(net: Net, order: Order, out: &mut [u8]) -> Reply
     ensures { λ r. ⌜ Responded (timetableValues net order) (now (out .entry)) r (now (out .exit)) ⌝ }
 {
-    let c = cards::check_order(net, order);
+    let c = run_card::check_order(net, order);
     match c {
         Checked::Refused(r) => Reply::Refused(r),
         Checked::Passed => timetable_checked(net, order, out),
@@ -208,15 +180,15 @@ pub fn timetable(net: Net, order: Order, out: &mut [u8]) -> Reply
 pub fn timetable_cards(input: &[u8], out: &mut [u8]) -> Reply
     ensures { λ r. ⌜ Responded (timetableCards (now (input .entry))) (now (out .entry)) r (now (out .exit)) ⌝ }
 {
-    let i = cards::read_order_cards(input);
-    let read = i.read;
+    let n = net_card::read_net(input);
+    let net = n.net;
+    let net_read = n.read;
+    let o = run_card::order_behind(input, net_read, net.transitions);
+    let order = o.order;
+    let read = o.read;
     match read {
-        LineRead::Stopped(r) => Reply::Refused(r),
-        LineRead::Next(_) => {
-            let card = i.net;
-            let order = i.order;
-            timetable_checked(card, order, out)
-        }
+        LineRead::Stopped(why) => Reply::Refused(why),
+        LineRead::Next(_) => timetable_checked(net, order, out),
     }
 }
 
@@ -225,15 +197,11 @@ fn process_checked(net: Net, run: Run, out: &mut [u8]) -> Reply
     requires { ⌜ runChecked net run ≡ Passed ⌝ }
     ensures { λ r. ⌜ Responded (processOf net run) (now (out .entry)) r (now (out .exit)) ⌝ }
 {
-    let p = firing::play_run(net, run);
+    let p = steps::play(net, run);
     let c = p.checked;
     match c {
         Checked::Refused(r) => Reply::Refused(r),
-        Checked::Passed => {
-            let mut text = [0u8; 22001];
-            let n = causal::put_process(&mut text, 0, net, run);
-            reply::respond(&text[..n], out)
-        }
+        Checked::Passed => respond_process(net, run, out),
     }
 }
 
@@ -241,7 +209,7 @@ fn process_checked(net: Net, run: Run, out: &mut [u8]) -> Reply
 pub fn process(net: Net, run: Run, out: &mut [u8]) -> Reply
     ensures { λ r. ⌜ Responded (processValues net run) (now (out .entry)) r (now (out .exit)) ⌝ }
 {
-    let c = cards::check_run(net, run);
+    let c = run_card::check_run(net, run);
     match c {
         Checked::Refused(r) => Reply::Refused(r),
         Checked::Passed => process_checked(net, run, out),
@@ -252,14 +220,14 @@ pub fn process(net: Net, run: Run, out: &mut [u8]) -> Reply
 pub fn process_cards(input: &[u8], out: &mut [u8]) -> Reply
     ensures { λ r. ⌜ Responded (processCards (now (input .entry))) (now (out .entry)) r (now (out .exit)) ⌝ }
 {
-    let i = cards::read_run_cards(input);
-    let read = i.read;
+    let n = net_card::read_net(input);
+    let net = n.net;
+    let net_read = n.read;
+    let r = run_card::run_behind(input, net_read, net.transitions);
+    let run = r.run;
+    let read = r.read;
     match read {
-        LineRead::Stopped(r) => Reply::Refused(r),
-        LineRead::Next(_) => {
-            let card = i.net;
-            let timed = i.run;
-            process_checked(card, timed, out)
-        }
+        LineRead::Stopped(why) => Reply::Refused(why),
+        LineRead::Next(_) => process_checked(net, run, out),
     }
 }

@@ -1,10 +1,4 @@
 pub mod Accept
 pub mod Agree
-pub mod Bytes
 pub mod Clocks
 pub mod Places
-pub mod PlayLoop
-pub mod Restarts
-pub mod RowLaws
-pub mod Scan
-pub mod Sizes

@@ -1,19 +1,21 @@
 -- A refusal of a run names one of its firings, since it is the firing behind those that are allowed.
-use Prim.Native.Nat.{ℕ, suc, _+_, _≤_}
+use Prim.Native.Nat.{ℕ, suc, _+_, _≤_, min}
+use native.Mathlib.Nat.{min-le-left}
 use native.Mathlib.Omega.{arith}
 use mathlib.Core.Path.{_≡_, ap, _∙_}
 use mathlib.Core.List.{_∷_}
 use lib.ListN.{length, length-append}
 use Rattle.laws.specs.Slots.{length-first}
 use Rattle.reply.specs.declared.Refusal.{Refusal}
-use Rattle.reply.specs.declared.Refusal.the-variants.{Malformed, OutOfRange, LatestBelowEarliest, NoSuchTransition, NotEnabled, TooManyTokens, OutsideInterval, Untimable, OutputTooShort}
+use Rattle.reply.specs.declared.Refusal.the-variants.{Malformed, OutOfRange, LatestBelowEarliest, NoSuchTransition, NotEnabled, TooManyTokens, OutsideInterval}
+use Rattle.reply.specs.declared.Refusal.the-variants.{Untimable, OutputTooShort}
 use Rattle.reply.specs.declared.Checked.the-variants.{Refused}
 use Rattle.reply.specs.Refusal.{positionOf}
 use Rattle.net.specs.declared.Net.{Net}
 use Rattle.run.specs.declared.Run.{Run}
-use Rattle.run.specs.Run.{noFiring}
+use Rattle.run.specs.Run.{noFiring, firingsOf}
 use Rattle.firing.specs.Semantics.{Restart, Timed}
-use Rattle.firing.specs.Replay.{firingsOf, replay}
+use Rattle.firing.specs.Replay.{replay}
 use Rattle.firing.specs.Claims.{Because}
 use Rattle.firing.proofs.Accept.{refused-first}
 
@@ -28,16 +30,16 @@ because-place net D (NoSuchTransition k) n S t b = absurd b
 because-place net D (Untimable k) n S t b = absurd b
 because-place net D OutputTooShort n S t b = absurd b
 
-pub firings-many : (r : Run) → length (firingsOf r) ≡ r .count
+pub length-firings : (r : Run) → length (firingsOf r) ≡ min (r .count) 64
 unfolding firingsOf
-firings-many r = length-first (r .count) noFiring (r .firings)
+length-firings r = length-first (min (r .count) 64) noFiring (r .firings)
 
-pub replay-placed : (net : Net) (restarts : Restart) (run : Run) (r : Refusal) → replay net restarts run .checked ≡ Refused r
+pub replay-place : (net : Net) (restarts : Restart) (run : Run) (r : Refusal) → replay net restarts run .checked ≡ Refused r
     → (1 ≤ positionOf r) × (positionOf r ≤ run .count)
-replay-placed net restarts run r e =
+replay-place net restarts run r e =
     let f = refused-first net restarts run r e in
     let place = because-place net (run .denominator) r (0 + length (f .front) + 1) (f .there) (f .refused .fire) (f .because) in
     let all : length (firingsOf run) ≡ length (f .front) + suc (length (f .behind)) =
     ap length (f .split) ∙ length-append (f .front) (f .refused ∷ f .behind) in
-    let many = firings-many run in
-    (omega arith, omega arith)
+    let many = length-firings run in
+    (omega arith, omega (arith, min-le-left (run .count) 64))

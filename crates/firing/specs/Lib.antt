@@ -1,4 +1,5 @@
 pub mod Claims
 pub mod Replay
-pub mod Rows
 pub mod Semantics
+pub mod Step
+pub mod Tokens

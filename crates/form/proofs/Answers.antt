@@ -6,11 +6,10 @@ use native.Mathlib.Omega.{arith}
 use mathlib.Core.Path.{_≡_, ap, _∙_}
 use mathlib.Core.Bool.{true, false}
 use mathlib.Core.List.{List, [], _∷_}
-use lib.ListN.{length, take, drop, replicate}
+use lib.ListN.{length, take, drop}
 use borrow.Author.Tests.{le-leb, lt-leb}
-use Rattle.laws.specs.Front.{front-text}
+use Rattle.laws.specs.Writing.{front-text, Wrote}
 use Rattle.laws.specs.Slots.{firstOf, length-first}
-use Rattle.laws.specs.Splice.{Wrote}
 use Rattle.reply.specs.declared.Refusal.{Refusal}
 use Rattle.reply.specs.declared.Refusal.the-variants.{Malformed}
 use Rattle.reply.specs.declared.Checked.{Checked}
@@ -21,9 +20,8 @@ use Rattle.text.specs.Key.{beginsWith}
 use Rattle.form.specs.declared.NumberLine.the-variants.{Value, Refused}
 use Rattle.form.specs.declared.LineRead.{LineRead}
 use Rattle.form.specs.declared.LineRead.the-variants.{Next, Stopped}
-use Rattle.form.specs.declared.Numbers.{Numbers}
-use Rattle.form.specs.Form.{Found, found, refused, Form, keyed, chain, linesOf, times, alone}
-use Rattle.form.specs.Code.{numberLine, lineRead, valueOr, numbers}
+use Rattle.form.specs.Form.{Found, found, refused, Form, keyed, chain, linesOf, exactly, alone}
+use Rattle.form.specs.Code.{numberLine, lineRead, valueOr}
 use Rattle.form.proofs.Found.{found-value, found-place, then-found}
 
 -- a line's number
@@ -43,13 +41,6 @@ line-found (refused r) d a read p v e = cc
 pub line-stopped : {A : Type 0} (f : Found A) (read : LineRead) {r : Refusal} → read ≡ lineRead f → read ≡ Stopped r → f ≡ refused r
 line-stopped (found b to) read p e = cc
 line-stopped (refused r) read p e = cc
-
--- up to sixteen numbers
-pub numbers-found : (f : Found (List ℕ)) (t : Numbers) {next : ℕ} → t ≡ numbers f → t .read ≡ Next next → f ≡ found (t .items) next
-numbers-found f t p e = line-found f (replicate 16 0) (t .items) (t .read) (cc) (cc) e
-
-pub numbers-stopped : (f : Found (List ℕ)) (t : Numbers) {r : Refusal} → t ≡ numbers f → t .read ≡ Stopped r → f ≡ refused r
-numbers-stopped f t p e = line-stopped f (t .read) (cc) e
 
 -- a key in front
 module _ {A : Type 0} (key : List ℕ) (f : Form A) (s : List ℕ) (at line : ℕ) where
@@ -77,8 +68,8 @@ unfolding linesOf
 lines-each f k h [] = omega arith
 lines-each f k h (a ∷ l) = rw (mul-suc k (length l)) (omega (arith, h a, lines-each f k h l))
 
-pub times-lines : {A : Type 0} (n size : ℕ) (d : A) (f : Form A) (k : ℕ) → ((a : A) → f .lines a ≡ k) → (l : List A) → times n size d f .lines l ≡ k * n
-times-lines n size d f k h l = lines-each f k h (firstOf n d l) ∙ ap (λ (m : ℕ). k * m) (length-first n d l)
+pub exactly-lines : {A : Type 0} (n size : ℕ) (d : A) (f : Form A) (k : ℕ) → ((a : A) → f .lines a ≡ k) → (l : List A) → exactly n size d f .lines l ≡ k * n
+exactly-lines n size d f k h l = lines-each f k h (firstOf n d l) ∙ ap (λ (m : ℕ). k * m) (length-first n d l)
 
 -- what two forms in a row found
 pub record Parts {A B : Type 0} (f : Form A) (g : A → Form B) (v : A × B) (s : List ℕ) (at next line : ℕ) : Type 0 where
@@ -109,11 +100,13 @@ module _ {A : Type 0} (f : Form A) (s : List ℕ) where
     alone-followed h = rw (e, lt-leb (length s) next h)
 
 -- the reply with a text that was written to the front of a buffer
-pub text-answered : {text s : List ℕ} {r : Reply} {out buffer written : List ℕ} {n : ℕ} → Wrote buffer 0 text n written → Responded (answer (take n written)) s r out
+pub text-answered : {text s : List ℕ} {r : Reply} {out buffer written : List ℕ} {n : ℕ} → Wrote buffer 0 text n written
+    → Responded (answer (take n written)) s r out
     → Responded (answer text) s r out
 text-answered w v = rw (front-text w) at v
 
 -- and with that of a value: c is what its check says
-pub card-answered : {c : Checked} {text s : List ℕ} {r : Reply} {out buffer card : List ℕ} {n : ℕ} → c ≡ Passed → Wrote buffer 0 text n card → Responded (answer (take n card)) s r out
+pub card-answered : {c : Checked} {text s : List ℕ} {r : Reply} {out buffer card : List ℕ} {n : ℕ} → c ≡ Passed → Wrote buffer 0 text n card
+    → Responded (answer (take n card)) s r out
     → Responded (writtenIf c text) s r out
 card-answered p w v = rw p (text-answered w v)

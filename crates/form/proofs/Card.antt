@@ -27,7 +27,8 @@ module _ {A : Type 0} {f : Form A} (i : Inverse f) where
   written-again {a} {next} s e = i .written-read a s 0 next 1 e .bytes
 
   -- the check lets pass exactly the values that are read back
-  pub passes-exactly : Settled f → (a : A) (rest : List ℕ) → (f .check a 1 ≡ Passed) ↔ (f .read (f .text a ++ rest) 0 1 ≡ found (f .clean a) (length (f .text a)))
+  pub passes-exactly : Settled f → (a : A) (rest : List ℕ) → (f .check a 1 ≡ Passed)
+      ↔ (f .read (f .text a ++ rest) 0 1 ≡ found (f .clean a) (length (f .text a)))
   passes-exactly w a rest =
       (read-back a rest, λ e. sym (w .same-check a 1) ∙ i .written-read (f .clean a) (f .text a ++ rest) 0 (length (f .text a)) 1 e .passed)
 
@@ -44,7 +45,8 @@ module _ {A : Type 0} {f : Form A} (i : Inverse f) where
 pub alone-found : {A : Type 0} (f : Form A) (s : List ℕ) {a : A} {next : ℕ} → alone f s ≡ found a next → (f .read s 0 1 ≡ found a next) × (length s ≤ next)
 alone-found {A} f s {a} {next} e = let u = then-found (f .read s 0 1) _ e in go (u .value) (u .place) (u .first) _ (leb (length s) (u .place)) refl (u .then)
   where
-    go : (b : A) (place : ℕ) → f .read s 0 1 ≡ found b place → (r : Refusal) (t : Bool) → leb (length s) place ≡ t → cond t (found b place) (refused r) ≡ found a next
+    go : (b : A) (place : ℕ) → f .read s 0 1 ≡ found b place → (r : Refusal) (t : Bool) → leb (length s) place ≡ t
+        → cond t (found b place) (refused r) ≡ found a next
         → (f .read s 0 1 ≡ found a next) × (length s ≤ next)
     go b place q r true l e′ = (q ∙ e′, omega (arith, leb-true (length s) place l, found-place e′))
     go b place q r false l e′ = absurd (not-both e′)
@@ -69,9 +71,6 @@ module _ {A : Type 0} {f : Form A} (i : Inverse f) where
       let w = i .written-read a s 0 next 1 (h .0) in
       let bytes : s ≡ f .text a = w .bytes ∙ ap (λ (l : List ℕ). f .text a ++ l) (drop-of-length-le s {i = next} (h .1)) ∙ append-nil (f .text a) in
       record { bytes = bytes; end = omega (arith, w .end, ap length bytes); passed = w .passed; cleaned = w .cleaned }
-
-  pub alone-end : {a : A} {next : ℕ} (s : List ℕ) → alone f s ≡ found a next → next ≡ length s
-  alone-end s e = alone-written-again s e .end
 
   pub alone-passes-exactly : Settled f → (a : A) → (f .check a 1 ≡ Passed) ↔ (alone f (f .text a) ≡ found (f .clean a) (length (f .text a)))
   alone-passes-exactly w a = (alone-read-back a, λ e. sym (w .same-check a 1) ∙ alone-written-again (f .text a) e .passed)

@@ -2,22 +2,23 @@
 use Prim.Native.Nat.{ℕ, zero, suc, _+_, _*_, _≤_}
 use native.Mathlib.Nat.{add-zero}
 use native.Mathlib.Omega.{arith}
-use mathlib.Core.Path.{_≡_, refl, sym, ap, _∙_}
+use mathlib.Core.Path.{_≡_, refl, sym, ap, subst, _∙_}
 use mathlib.Core.Bool.{Bool, true, false, cond}
 use mathlib.Core.List.{List, [], _∷_, _++_, map}
 use lib.ListN.{length, take, drop, length-map}
 use Rattle.laws.specs.Slots.{firstOf, padTo, length-first, first-pad}
-use Rattle.laws.specs.TwoTexts.{first-there, second-there, both-there, both-long}
+use Rattle.laws.specs.Writing.{first-there, second-there, both-there, both-long}
 use Rattle.reply.specs.declared.Refusal.the-variants.{Malformed}
 use Rattle.reply.specs.declared.Checked.the-variants.{Passed}
 use Rattle.text.specs.Key.{beginsWith}
 use Rattle.text.proofs.KeyLaws.{begins-text, begins-split, begins-take}
-use Rattle.form.specs.Form.{found, refused, Form, keyed, chain, texts, linesOf, checks, reads, times, held}
+use Rattle.form.specs.Form.{found, refused, Form, keyed, chain, texts, linesOf, checks, reads, exactly, held}
 use Rattle.form.specs.Inverse.{WasRead, Inverse, Settled, Reaches}
 use Rattle.form.proofs.Found.{not-both, found-value, found-place, then-found, then-same, also-first, also-second}
 
 -- the same reading, told by the value and the place that it found
-pub was-same : {A : Type 0} (f : Form A) {a b : A} {s : List ℕ} {at next end line : ℕ} → found a next ≡ found b end → WasRead f a s at next line → WasRead f b s at end line
+pub was-same : {A : Type 0} (f : Form A) {a b : A} {s : List ℕ} {at next end line : ℕ} → found a next ≡ found b end → WasRead f a s at next line
+    → WasRead f b s at end line
 was-same f e w = rw (← found-value e, ← found-place e) w
 
 pub reaches-more : {A : Type 0} {f : Form A} {r q : ℕ} → r ≤ q → Reaches f r → Reaches f q
@@ -32,7 +33,8 @@ module _ (key : List ℕ) {A : Type 0} (f : Form A) where
       → keyed key f .read s at line ≡ found (f .clean a) (at + length (keyed key f .text a))
   keyed-back i a s rest at line p e =
       let t : beginsWith key (drop at s) ≡ true = ap (beginsWith key) (first-there s key (f .text a) rest at e) ∙ begins-text key (f .text a ++ rest) in
-      rw t (i .read-written a s rest (at + length key) line p (second-there s key (f .text a) rest at e) ∙ ap (found (f .clean a)) (both-long key (f .text a) at))
+      rw t (i .read-written a s rest (at + length key) line p (second-there s key (f .text a) rest at e)
+      ∙ ap (found (f .clean a)) (both-long key (f .text a) at))
 
   keyed-was : Inverse f → (a : A) (s : List ℕ) (at next line : ℕ) → keyed key f .read s at line ≡ found a next → WasRead (keyed key f) a s at next line
   keyed-was i a s at next line = go (beginsWith key (drop at s)) refl
@@ -89,7 +91,8 @@ module _ {A B : Type 0} (f : Form A) (g : A → Form B) where
         same-check = λ v line. rw (w .same-check (v .0) line, same (v .0), w .same-lines (v .0), z (v .0) .same-check (v .1) (line + f .lines (v .0))) refl;
       }
 
-  module _ (same : (a : A) → g (f .clean a) ≡ g a) (i : Inverse f) (settled : Settled f) (j : (a : A) (line : ℕ) → f .check a line ≡ Passed → Inverse (g a)) where
+  module _ (same : (a : A) → g (f .clean a) ≡ g a) (i : Inverse f) (settled : Settled f) (j : (a : A) (line : ℕ) → f .check a line ≡ Passed
+      → Inverse (g a)) where
     chain-back : (v : A × B) (s rest : List ℕ) (at line : ℕ) → chain f g .check v line ≡ Passed → drop at s ≡ chain f g .text v ++ rest
         → chain f g .read s at line ≡ found (chain f g .clean v) (at + length (chain f g .text v))
     chain-back v s rest at line p e =
@@ -130,7 +133,7 @@ module _ {A B : Type 0} (f : Form A) (g : A → Form B) where
     pub chain-reaches : Reaches (chain f g) (r + q)
     chain-reaches = record { near = chain-near; prefix = chain-prefix }
 
-module _ {A B : Type 0} (to : A → B) (from : B → A) {f : Form A} where
+module _ {A B : Type 0} (to : A → B) (from : B → A) (f : Form A) where
   held-was : (a : A) (s : List ℕ) (at next line : ℕ) → from (to a) ≡ a → WasRead f a s at next line → WasRead (held to from f) (to a) s at next line
   held-was a s at next line e w =
       record {
@@ -140,22 +143,26 @@ module _ {A B : Type 0} (to : A → B) (from : B → A) {f : Form A} where
         cleaned = ap (λ (x : A). to (f .clean x)) e ∙ ap to (w .cleaned);
       }
 
-  pub held-inverse : ((a : A) → from (to a) ≡ a) → Inverse f → Inverse (held to from f)
+  -- what was read comes back from the other type
+  pub held-back : ((a : A) → from (to (f .clean a)) ≡ f .clean a) → {a : A} → f .clean a ≡ a → from (to a) ≡ a
+  held-back back {a} e = subst (λ (x : A). from (to x) ≡ x) e (back a)
+
+  pub held-inverse : ((a : A) → from (to (f .clean a)) ≡ f .clean a) → Inverse f → Inverse (held to from f)
   held-inverse back i =
       record {
         read-written = λ b s rest at line p e. rw (i .read-written (from b) s rest at line p e) refl;
         written-read = λ b s at next line e.
             let u = then-found (f .read s at line) _ e in
             let w = i .written-read (u .value) s at (u .place) line (u .first) in
-            was-same (held to from f) (u .then) (held-was (u .value) s at (u .place) line (back (u .value)) w);
+            was-same (held to from f) (u .then) (held-was (u .value) s at (u .place) line (held-back back (w .cleaned)) w);
       }
 
-  pub held-settled : ((a : A) → from (to a) ≡ a) → Settled f → Settled (held to from f)
+  pub held-settled : ((a : A) → from (to (f .clean a)) ≡ f .clean a) → Settled f → Settled (held to from f)
   held-settled back w =
       record {
-        same-text = λ b. ap (f .text) (back (f .clean (from b))) ∙ w .same-text (from b);
-        same-lines = λ b. ap (f .lines) (back (f .clean (from b))) ∙ w .same-lines (from b);
-        same-check = λ b line. ap (λ (a : A). f .check a line) (back (f .clean (from b))) ∙ w .same-check (from b) line;
+        same-text = λ b. ap (f .text) (back (from b)) ∙ w .same-text (from b);
+        same-lines = λ b. ap (f .lines) (back (from b)) ∙ w .same-lines (from b);
+        same-check = λ b line. ap (λ (a : A). f .check a line) (back (from b)) ∙ w .same-check (from b) line;
       }
 
   pub held-reaches : {r : ℕ} → Reaches f r → Reaches (held to from f) r
@@ -192,7 +199,8 @@ module _ {A : Type 0} (f : Form A) where
         cleaned = λ k. w .cleaned k ∷ w′ .cleaned k;
       }
 
-  were-same : (n : ℕ) {l m : List A} {s : List ℕ} {at next end line : ℕ} → found l next ≡ found m end → WereRead f n l s at next line → WereRead f n m s at end line
+  were-same : (n : ℕ) {l m : List A} {s : List ℕ} {at next end line : ℕ} → found l next ≡ found m end → WereRead f n l s at next line
+      → WereRead f n m s at end line
   were-same n e w = rw (← found-value e, ← found-place e) w
 
   reads-was : Inverse f → (n : ℕ) (l : List A) (s : List ℕ) (at next line : ℕ) → reads f n s at line ≡ found l next → WereRead f n l s at next line
@@ -250,8 +258,8 @@ module _ {A : Type 0} (f : Form A) where
       rw (reads-prefix w n s k next (line + f .lines a) (omega (arith, w .near a s at next line e))) refl))
 
 module _ (n size : ℕ) {A : Type 0} (d : A) (f : Form A) where
-  times-was : (l : List A) (s : List ℕ) (at next line : ℕ) → WereRead f n l s at next line → WasRead (times n size d f) (padTo size d l) s at next line
-  times-was l s at next line w =
+  exactly-was : (l : List A) (s : List ℕ) (at next line : ℕ) → WereRead f n l s at next line → WasRead (exactly n size d f) (padTo size d l) s at next line
+  exactly-was l s at next line w =
       let e = first-pad n size d l (w .count) in
       record {
         bytes = w .bytes ∙ ap (λ (m : List A). texts f m ++ drop next s) (sym e);
@@ -260,31 +268,31 @@ module _ (n size : ℕ) {A : Type 0} (d : A) (f : Form A) where
         cleaned = ap (λ (m : List A). padTo size d (map (f .clean) m)) e ∙ ap (padTo size d) (w .cleaned);
       }
 
-  pub times-inverse : Inverse f → Settled f → Inverse (times n size d f)
-  times-inverse i w =
+  pub exactly-inverse : Inverse f → Settled f → Inverse (exactly n size d f)
+  exactly-inverse i w =
       record {
         read-written = λ l s rest at line p e.
             let m = firstOf n d l in
             rw (ap (λ (k : ℕ). reads f k s at line) (sym (length-first n d l)) ∙ reads-back f i w m s rest at line p e) refl;
         written-read = λ l s at next line e.
             let u = then-found (reads f n s at line) _ e in
-            was-same (times n size d f) (u .then) (times-was (u .value) s at (u .place) line (reads-was f i n (u .value) s at (u .place) line (u .first)));
+            was-same (exactly n size d f) (u .then) (exactly-was (u .value) s at (u .place) line (reads-was f i n (u .value) s at (u .place) line (u .first)));
       }
 
   -- the parts that count, each of them clean
   first-clean : (l : List A) → firstOf n d (padTo size d (map (f .clean) (firstOf n d l))) ≡ map (f .clean) (firstOf n d l)
   first-clean l = first-pad n size d (map (f .clean) (firstOf n d l)) (length-map (firstOf n d l) (f .clean) ∙ length-first n d l)
 
-  pub times-settled : Settled f → Settled (times n size d f)
-  times-settled w =
+  pub exactly-settled : Settled f → Settled (exactly n size d f)
+  exactly-settled w =
       record {
         same-text = λ l. ap (texts f) (first-clean l) ∙ texts-clean f w (firstOf n d l);
         same-lines = λ l. ap (linesOf f) (first-clean l) ∙ lines-clean f w (firstOf n d l);
         same-check = λ l line. ap (λ (m : List A). checks f m line) (first-clean l) ∙ checks-clean f w (firstOf n d l) line;
       }
 
-  pub times-reaches : {r : ℕ} → Reaches f r → Reaches (times n size d f) (n * r)
-  times-reaches w =
+  pub exactly-reaches : {r : ℕ} → Reaches f r → Reaches (exactly n size d f) (n * r)
+  exactly-reaches w =
       record {
         near = λ l s at next line e.
             let u = then-found (reads f n s at line) _ e in

@@ -8,7 +8,7 @@ use Rattle.laws.specs.Each.{Each}
 use Rattle.reply.specs.declared.Refusal.{Refusal}
 use Rattle.reply.specs.declared.Checked.{Checked}
 use Rattle.reply.specs.declared.Checked.the-variants.{Passed, Refused}
-use Rattle.form.specs.Form.{Found, found, refused, andThen, judged, also, Form, checks}
+use Rattle.form.specs.Form.{Found, found, refused, andThen, foundIf, also, Form, checks}
 
 -- the values that a reading in two steps went through
 pub record Went {A B : Type 0} (m : Found A) (more : A → ℕ → Found B) (b : B) (end : ℕ) : Type 0 where
@@ -45,7 +45,8 @@ then-nothing (found a next) = refl
 then-nothing (refused r) = refl
 
 -- three steps, grouped either way
-pub then-then : {A B C : Type 0} (m : Found A) (f : A → ℕ → Found B) (g : B → ℕ → Found C) → andThen (andThen m f) g ≡ andThen m (λ a next. andThen (f a next) g)
+pub then-then : {A B C : Type 0} (m : Found A) (f : A → ℕ → Found B) (g : B → ℕ → Found C)
+    → andThen (andThen m f) g ≡ andThen m (λ a next. andThen (f a next) g)
 then-then (found a next) f g = refl
 then-then (refused r) f g = refl
 
@@ -73,11 +74,11 @@ checks-each f P h (a ∷ l) line e =
     let rest = checks f l (line + f .lines a) in
     (h a line (also-first here rest e), checks-each f P h l (line + f .lines a) (also-second here rest e))
 
-pub judged-passed : {A : Type 0} (c : Checked) (a : A) (next : ℕ) {b : A} {end : ℕ} → judged c a next ≡ found b end → c ≡ Passed
+pub judged-passed : {A : Type 0} (c : Checked) (a : A) (next : ℕ) {b : A} {end : ℕ} → foundIf c a next ≡ found b end → c ≡ Passed
 judged-passed Passed a next e = refl
 judged-passed (Refused r) a next e = absurd (not-both e)
 
-pub judged-found : {A : Type 0} (c : Checked) (a : A) (next : ℕ) {b : A} {end : ℕ} → judged c a next ≡ found b end → found a next ≡ found b end
+pub judged-found : {A : Type 0} (c : Checked) (a : A) (next : ℕ) {b : A} {end : ℕ} → foundIf c a next ≡ found b end → found a next ≡ found b end
 judged-found Passed a next e = e
 judged-found (Refused r) a next e = absurd (not-both e)
 
@@ -90,6 +91,6 @@ pub test-refused : (t : Bool) (r : Refusal) {q : Refusal} → cond t Passed (Ref
 test-refused true r e = let z : _≡_ {A = ℕ} 0 1 = cc in absurd (omega arith)
 test-refused false r e = cc
 
-pub judged-refused : {A : Type 0} (c : Checked) (a : A) (next : ℕ) {r : Refusal} → judged c a next ≡ refused r → c ≡ Refused r
+pub judged-refused : {A : Type 0} (c : Checked) (a : A) (next : ℕ) {r : Refusal} → foundIf c a next ≡ refused r → c ≡ Refused r
 judged-refused Passed a next e = let z : _≡_ {A = ℕ} 0 1 = cc in absurd (omega arith)
 judged-refused (Refused q) a next e = cc

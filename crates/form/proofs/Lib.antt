@@ -7,5 +7,4 @@ pub mod Items
 pub mod Lines
 pub mod Loops
 pub mod NumberLines
-pub mod OneDigit
 pub mod Places

@@ -5,13 +5,11 @@ use native.Mathlib.Omega.{arith}
 use mathlib.Core.Path.{_≡_, refl, sym, ap, _∙_}
 use mathlib.Core.Bool.{true, _&&_, and-eq-true-iff}
 use mathlib.Core.List.{List, [], _∷_, _++_}
-use lib.ListN.{length, getD, take, drop}
+use lib.ListN.{length, take, drop}
 use lib.Dec.{leb, ltb, eqb}
 use borrow.Author.Tests.{leb-true, ltb-true}
-use Rattle.laws.specs.Each.{Each}
-use Rattle.laws.specs.EachAt.{each-at}
-use Rattle.laws.specs.Slots.{firstOf, padTo, length-first, getD-first, first-pad}
-use Rattle.laws.specs.TwoTexts.{first-there, second-there, both-there, both-long}
+use Rattle.laws.specs.Slots.{firstOf, padTo, length-first, first-pad}
+use Rattle.laws.specs.Writing.{first-there, second-there, both-there, both-long}
 use Rattle.reply.specs.declared.Refusal.the-variants.{OutOfRange, NoSuchTransition}
 use Rattle.reply.specs.declared.Checked.{Checked}
 use Rattle.reply.specs.declared.Checked.the-variants.{Passed}
@@ -23,7 +21,7 @@ use Rattle.text.specs.Decimal.{field}
 use Rattle.text.proofs.KeyLaws.{begins-split}
 use Rattle.text.proofs.NumberLaws.{field-text, field-split, field-near, field-take}
 use Rattle.form.specs.Form.{found, Form, keyed}
-use Rattle.form.specs.Line.{formed, ranged, listed, number, itemsText, itemsAt, allRanged, itemsRanged, items}
+use Rattle.form.specs.Line.{formed, ranged, listed, number, itemsText, itemsAt, allRanged, itemsRanged, itemList}
 use Rattle.form.specs.Inverse.{WasRead, Inverse, Settled, Reaches}
 use Rattle.form.proofs.Found.{not-both, found-value, found-place, then-found, then-same, judged-passed, judged-found, test-passed}
 use Rattle.form.proofs.Combine.{was-same, keyed-inverse}
@@ -83,7 +81,8 @@ pub record ItemsThere (k : ℕ) (ns s : List ℕ) (at next : ℕ) : Type 0 where
 items-same : (k : ℕ) {ns ms s : List ℕ} {at next end : ℕ} → found ns next ≡ found ms end → ItemsThere k ns s at next → ItemsThere k ms s at end
 items-same k e w = rw (← found-value e, ← found-place e) w
 
-items-more : (k n : ℕ) (ns s : List ℕ) (at next end : ℕ) → fieldAt s at (eqb k 0) ≡ Value n next → ItemsThere k ns s next end → ItemsThere (suc k) (n ∷ ns) s at end
+items-more : (k n : ℕ) (ns s : List ℕ) (at next end : ℕ) → fieldAt s at (eqb k 0) ≡ Value n next → ItemsThere k ns s next end
+    → ItemsThere (suc k) (n ∷ ns) s at end
 unfolding itemsText
 items-more k n ns s at next end e w =
     let v = field-split n at next (eqb k 0) s e in
@@ -101,7 +100,8 @@ items-there (suc k) ns s at next line e =
     let u = then-found (formed line (fieldAt s at (eqb k 0))) _ e in
     let x = then-found (itemsAt k s (u .place) line) _ (u .then) in
     let v = formed-value line (fieldAt s at (eqb k 0)) (u .first) in
-    items-same (suc k) (x .then) (items-more k (u .value) (x .value) s at (u .place) (x .place) v (items-there k (x .value) s (u .place) (x .place) line (x .first)))
+    items-same (suc k) (x .then) (items-more k (u .value) (x .value) s at (u .place) (x .place) v
+    (items-there k (x .value) s (u .place) (x .place) line (x .first)))
 
 items-back : (low high : ℕ) → high < 10 ^ 9 → (ns s rest : List ℕ) (at line : ℕ) → allRanged low high ns ≡ true → drop at s ≡ itemsText ns ++ rest
     → itemsAt (length ns) s at line ≡ found ns (at + length (itemsText ns))
@@ -134,23 +134,9 @@ items-prefix (suc j) s k at line h =
     let l = field-near n at next last s (formed-value line (fieldAt s at last) e) in
     rw (items-prefix j s k next line (omega (arith, l .0))) refl))
 
-ranges-each : (low high : ℕ) (ns : List ℕ) → allRanged low high ns ≡ true → Each (λ (n : ℕ). (low ≤ n) × (n ≤ high)) ns
-unfolding allRanged
-ranges-each low high [] e = tt
-ranges-each low high (n ∷ ns) e =
-    let q = and-eq-true-iff (leb low n && leb n high) (allRanged low high ns) .0 e in
-    let r = and-eq-true-iff (leb low n) (leb n high) .0 (q .0) in
-    ((leb-true low n (r .0), leb-true n high (r .1)), ranges-each low high ns (q .1))
-
 module _ (k size low high : ℕ) where
-  -- each number of a list that passes is within the range
-  pub items-within : (ns : List ℕ) (line : ℕ) → items k size low high .check ns line ≡ Passed → (p : ℕ) → p < k → (low ≤ getD ns p 0) × (getD ns p 0 ≤ high)
-  items-within ns line e p l =
-      let m = firstOf k 0 ns in
-      let each = ranges-each low high m (test-passed (allRanged low high m) (OutOfRange line) e) in
-      rw getD-first at (each-at (λ (n : ℕ). (low ≤ n) × (n ≤ high)) 0 m each p (omega (arith, length-first k 0 ns)))
-
-  items-was : (ns s : List ℕ) (at next line : ℕ) → ItemsThere k ns s at next → itemsRanged low high ns line ≡ Passed → WasRead (items k size low high) (padTo size 0 ns) s at next line
+  items-was : (ns s : List ℕ) (at next line : ℕ) → ItemsThere k ns s at next → itemsRanged low high ns line ≡ Passed
+      → WasRead (itemList k size low high) (padTo size 0 ns) s at next line
   items-was ns s at next line w p =
       let e = first-pad k size 0 ns (w .count) in
       record {
@@ -160,7 +146,7 @@ module _ (k size low high : ℕ) where
         cleaned = rw e refl;
       }
 
-  pub items-inverse : high < 10 ^ 9 → Inverse (items k size low high)
+  pub items-inverse : high < 10 ^ 9 → Inverse (itemList k size low high)
   items-inverse h =
       record {
         read-written = λ ns s rest at line p e.
@@ -170,11 +156,11 @@ module _ (k size low high : ℕ) where
         written-read = λ ns s at next line e.
             let u = then-found (itemsAt k s at line) _ e in
             let c = itemsRanged low high (u .value) line in
-            was-same (items k size low high) (judged-found c _ (u .place) (u .then))
+            was-same (itemList k size low high) (judged-found c _ (u .place) (u .then))
             (items-was (u .value) s at (u .place) line (items-there k (u .value) s at (u .place) line (u .first)) (judged-passed c _ (u .place) (u .then)));
       }
 
-  pub items-settled : Settled (items k size low high)
+  pub items-settled : Settled (itemList k size low high)
   items-settled =
       record {
         same-text = λ ns. rw (again ns) refl;
@@ -185,7 +171,7 @@ module _ (k size low high : ℕ) where
       again : (ns : List ℕ) → firstOf k 0 (padTo size 0 (firstOf k 0 ns)) ≡ firstOf k 0 ns
       again ns = first-pad k size 0 (firstOf k 0 ns) (length-first k 0 ns)
 
-  pub items-reaches : Reaches (items k size low high) (k * 10)
+  pub items-reaches : Reaches (itemList k size low high) (k * 10)
   items-reaches =
       record {
         near = λ ns s at next line e.
@@ -196,13 +182,15 @@ module _ (k size low high : ℕ) where
       }
 
 -- what was read behind a key lies in its range
-pub ranged-read : (key : List ℕ) (low high : ℕ) → high < 10 ^ 9 → (n : ℕ) (s : List ℕ) (at next line : ℕ) → keyed key (number (ranged low high)) .read s at line ≡ found n next
+pub ranged-read : (key : List ℕ) (low high : ℕ) → high < 10 ^ 9 → (n : ℕ) (s : List ℕ) (at next line : ℕ)
+    → keyed key (number (ranged low high)) .read s at line ≡ found n next
     → (low ≤ n) × (n ≤ high)
 ranged-read key low high h n s at next line e =
     let i = keyed-inverse key (number (ranged low high)) (number-inverse (ranged low high) (ranged-small low high h)) in
     ranged-within low high n line (i .written-read n s at next line e .passed)
 
 -- a value whose text is a word of its own, where the word stands
-pub word-was : {A : Type 0} (f : Form A) (a : A) (s : List ℕ) (at line : ℕ) → f .check a line ≡ Passed → f .clean a ≡ a → beginsWith (f .text a) (drop at s) ≡ true
+pub word-was : {A : Type 0} (f : Form A) (a : A) (s : List ℕ) (at line : ℕ) → f .check a line ≡ Passed → f .clean a ≡ a
+    → beginsWith (f .text a) (drop at s) ≡ true
     → WasRead f a s at (at + length (f .text a)) line
 word-was f a s at line p c t = record { bytes = begins-split (f .text a) s at t .0; end = refl; passed = p; cleaned = c }

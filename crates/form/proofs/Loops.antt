@@ -7,12 +7,11 @@ use mathlib.Core.Path.{_≡_, refl, sym, ap, _∙_}
 use mathlib.Core.List.{List, [], _∷_, _++_, append-nil}
 use lib.ListN.{length, getD, take, drop, set, replicate, length-replicate, length-set, take-append-drop, drop-of-length-le}
 use lib.Seq.{append-snoc, take-suc-set, drop-set-lt, drop-drop, length-take-le}
-use Rattle.laws.specs.Joined.{joined, joined-whole}
-use Rattle.laws.specs.SlotSteps.{first-next}
-use Rattle.laws.specs.Slots.{firstOf, padTo, length-first}
+use Rattle.laws.specs.Writing.{joined, joined-whole}
+use Rattle.laws.specs.Slots.{first-next, firstOf, padTo, length-first}
 use Rattle.reply.specs.declared.Refusal.{Refusal}
 use Rattle.reply.specs.declared.Checked.the-variants.{Passed, Refused}
-use Rattle.form.specs.Form.{found, refused, andThen, also, Form, texts, checks, reads, times}
+use Rattle.form.specs.Form.{found, refused, andThen, also, Form, texts, checks, reads, exactly}
 use Rattle.form.proofs.Found.{then-same, then-nothing, then-then}
 
 -- of n parts that stand from `at` on, i are read into l, and the next one stands at `to`, in line q
@@ -23,7 +22,8 @@ pub record Reading {A : Type 0} (f : Form A) (n size : ℕ) (d : A) (s : List �
   pub filled : drop i l ≡ replicate (size - i) d
   pub rest : reads f n s at line ≡ andThen (reads f (n - i) s to q) (λ m end. found (take i l ++ m) end)
 
-pub reading-start : {A : Type 0} (f : Form A) (n size : ℕ) (d : A) (s : List ℕ) (at line : ℕ) → n ≤ size → Reading f n size d s at line (replicate size d) 0 at line
+pub reading-start : {A : Type 0} (f : Form A) (n size : ℕ) (d : A) (s : List ℕ) (at line : ℕ) → n ≤ size
+    → Reading f n size d s at line (replicate size d) 0 at line
 reading-start f n size d s at line h =
     record {
       room = h;
@@ -43,11 +43,13 @@ module _ {A : Type 0} {f : Form A} {n size : ℕ} {d : A} {s : List ℕ} {at lin
       ∙ ap (λ (m : List A). drop 1 m) (w .filled ∙ ap (λ (k : ℕ). replicate k d) e)
 
   -- what is left to read, where the next part is looked at first
-  rest-next : i < n → reads f n s at line ≡ andThen (f .read s to q) (λ a next. andThen (reads f (n - (i + 1)) s next (q + f .lines a)) (λ m end. found (take i l ++ a ∷ m) end))
+  rest-next : i < n → reads f n s at line ≡ andThen (f .read s to q)
+      (λ a next. andThen (reads f (n - (i + 1)) s next (q + f .lines a)) (λ m end. found (take i l ++ a ∷ m) end))
   unfolding reads
   rest-next h =
       let e : n - i ≡ suc (n - (i + 1)) = omega arith in
-      w .rest ∙ rw e (then-then (f .read s to q) _ _ ∙ then-same (f .read s to q) _ _ (λ a next z. then-then (reads f (n - (i + 1)) s next (q + f .lines a)) _ _))
+      w .rest ∙ rw e (then-then (f .read s to q) _ _ ∙ then-same (f .read s to q) _ _
+      (λ a next z. then-then (reads f (n - (i + 1)) s next (q + f .lines a)) _ _))
 
   pub reading-more : i < n → {a : A} {next : ℕ} → f .read s to q ≡ found a next → Reading f n size d s at line (set l i a) (i + 1) next (q + f .lines a)
   reading-more h {a} {next} e =
@@ -57,13 +59,14 @@ module _ {A : Type 0} {f : Form A} {n size : ℕ} {d : A} {s : List ℕ} {at lin
         within = omega arith;
         whole = length-set l i a ∙ w .whole;
         filled = slots-left a h;
-        rest = rest-next h ∙ rw e (then-same (reads f (n - (i + 1)) s next (q + f .lines a)) _ _ (λ m end z. ap (λ (x : List A). found x end) (sym (ap (λ (x : List A). x ++ m) t ∙ append-snoc (take i l) a m))));
+        rest = rest-next h ∙ rw e (then-same (reads f (n - (i + 1)) s next (q + f .lines a)) _ _
+            (λ m end z. ap (λ (x : List A). found x end) (sym (ap (λ (x : List A). x ++ m) t ∙ append-snoc (take i l) a m))));
       }
 
-  pub reading-refused : i < n → {r : Refusal} → f .read s to q ≡ refused r → times n size d f .read s at line ≡ refused r
+  pub reading-refused : i < n → {r : Refusal} → f .read s to q ≡ refused r → exactly n size d f .read s at line ≡ refused r
   reading-refused h e = rw (rest-next h, e) refl
 
-  pub reading-done : n ≤ i → times n size d f .read s at line ≡ found l to
+  pub reading-done : n ≤ i → exactly n size d f .read s at line ≡ found l to
   unfolding reads
   reading-done h =
       let z : n - i ≡ 0 = omega arith in

@@ -17,7 +17,7 @@ use Rattle.text.specs.declared.NumberRead.the-variants as read
 use Rattle.text.specs.Key.{beginsWith}
 use Rattle.text.specs.Number.{fieldAt}
 use Rattle.form.specs.declared.NumberLine.the-variants.{Value, Refused}
-use Rattle.form.specs.Form.{Found, refused, andThen, judged, keyed}
+use Rattle.form.specs.Form.{Found, refused, andThen, foundIf, keyed}
 use Rattle.form.specs.Line.{formed, number}
 use Rattle.form.specs.Code.{numberLine, keyedField}
 
@@ -35,7 +35,7 @@ module _ (low high n : ℕ) where
 -- ---- a line with a key and a number
 module _ (judge : ℕ → ℕ → Checked) (key s : List ℕ) (at line : ℕ) where
   abbrev numbered : Found ℕ
-  numbered = andThen (formed line (keyedField key s at)) (λ n next. judged (judge n line) n next)
+  numbered = andThen (formed line (keyedField key s at)) (λ n next. foundIf (judge n line) n next)
 
   -- where the key is missing, no number stands behind it
   line-read : keyed key (number judge) .read s at line ≡ numbered
@@ -43,15 +43,17 @@ module _ (judge : ℕ → ℕ → Checked) (key s : List ℕ) (at line : ℕ) wh
     where
       go : (t : Bool) →
           cond t (number judge .read s (at + length key) line) (refused (Malformed line)) ≡
-          andThen (formed line (cond t (fieldAt s (at + length key) true) NoNumber)) (λ n next. judged (judge n line) n next)
+          andThen (formed line (cond t (fieldAt s (at + length key) true) NoNumber)) (λ n next. foundIf (judge n line) n next)
       go true = refl
       go false = refl
 
   pub line-none : keyedField key s at ≡ NoNumber → Refused (Malformed line) ≡ numberLine (keyed key (number judge) .read s at line)
   line-none e = rw (line-read, e) refl
 
-  pub line-refused : (n next : ℕ) (r : Refusal) → keyedField key s at ≡ read.Value n next → judge n line ≡ checked.Refused r → Refused r ≡ numberLine (keyed key (number judge) .read s at line)
+  pub line-refused : (n next : ℕ) (r : Refusal) → keyedField key s at ≡ read.Value n next → judge n line ≡ checked.Refused r
+      → Refused r ≡ numberLine (keyed key (number judge) .read s at line)
   line-refused n next r e j = rw (line-read, e, j) refl
 
-  pub line-passed : (n next : ℕ) → keyedField key s at ≡ read.Value n next → judge n line ≡ Passed → Value n next ≡ numberLine (keyed key (number judge) .read s at line)
+  pub line-passed : (n next : ℕ) → keyedField key s at ≡ read.Value n next → judge n line ≡ Passed
+      → Value n next ≡ numberLine (keyed key (number judge) .read s at line)
   line-passed n next e j = rw (line-read, e, j) refl

@@ -16,9 +16,10 @@ use Rattle.text.specs.declared.NumberRead.{NumberRead}
 use Rattle.text.specs.declared.NumberRead.the-variants.{Value, NoNumber}
 use Rattle.text.specs.Key.{beginsWith}
 use Rattle.text.specs.Number.{fieldAt}
-use Rattle.form.specs.Form.{found, refused, andThen, judged, Form, keyed, chain, linesOf, reads, times, held, alone}
-use Rattle.form.specs.Line.{formed, ranged, listed, number, itemsAt, allRanged, itemsRanged, items}
-use Rattle.form.specs.Inverse.{Among, Placed}
+use Rattle.form.specs.Form.{found, refused, andThen, foundIf, Form, keyed, chain, linesOf, reads, exactly, held, alone}
+use Rattle.form.specs.Line.{formed, ranged, listed, number, itemsAt, allRanged, itemsRanged, itemList}
+use Rattle.form.specs.Inverse.{Inverse, Among, Placed}
+use Rattle.form.proofs.Combine.{held-back}
 use Rattle.form.proofs.Found.{not-both, refused-same, found-value, then-found, then-refused, test-refused, judged-refused}
 
 -- ---- one line
@@ -60,11 +61,11 @@ ranged-own low high n line r e = ap positionOf (sym (test-refused (leb low n && 
 pub listed-own : (transitions : ℕ) → OwnLine (listed transitions)
 listed-own transitions n line r e = ap positionOf (sym (test-refused (ltb n transitions) (NoSuchTransition line) e))
 
--- a number of the line, and what is judged of it
+-- a number of the line, and what is foundIf of it
 pub field-own : {A : Type 0} (judge : A → ℕ → Checked) (to : ℕ → A) → OwnLine judge → (line : ℕ) (n : NumberRead) {r : Refusal}
-    → andThen (formed line n) (λ m next. judged (judge (to m) line) (to m) next) ≡ refused r → positionOf r ≡ line
+    → andThen (formed line n) (λ m next. foundIf (judge (to m) line) (to m) next) ≡ refused r → positionOf r ≡ line
 field-own judge to own line n {r} =
-    then-refused (formed line n) (λ m next. judged (judge (to m) line) (to m) next) (formed-own line n)
+    then-refused (formed line n) (λ m next. foundIf (judge (to m) line) (to m) next) (formed-own line n)
     (λ m next e q. own (to m) line r (judged-refused (judge (to m) line) (to m) next q))
 
 pub number-placed : (judge : ℕ → ℕ → Checked) → OwnLine judge → Placed (number judge) 1
@@ -77,7 +78,7 @@ items-own (suc k) s at line e =
     then-refused (formed line (fieldAt s at (eqb k 0))) _ (formed-own line (fieldAt s at (eqb k 0)))
     (λ n next p q. then-refused (itemsAt k s next line) _ (items-own k s next line) (λ ns end x y. absurd (not-both (sym y))) q) e
 
-pub items-placed : (k size low high : ℕ) → Placed (items k size low high) 1
+pub items-placed : (k size low high : ℕ) → Placed (itemList k size low high) 1
 items-placed k size low high =
     line-placed
     (λ r s at line e.
@@ -132,13 +133,14 @@ module _ {A B : Type 0} {f : Form A} {g : A → Form B} {n m : ℕ} where
       }
 
 module _ {A B : Type 0} (to : A → B) (from : B → A) {f : Form A} {n : ℕ} where
-  pub held-placed : ((a : A) → from (to a) ≡ a) → Placed f n → Placed (held to from f) n
-  held-placed back w =
+  pub held-placed : ((a : A) → from (to (f .clean a)) ≡ f .clean a) → Inverse f → Placed f n → Placed (held to from f) n
+  held-placed back i w =
       record {
         named = λ r s at line. then-refused (f .read s at line) _ (w .named r s at line) (λ a next e q. absurd (not-both (sym q)));
         few = λ b s at next line e.
             let u = then-found (f .read s at line) _ e in
-            same-lines (λ (x : B). f .lines (from x)) (u .then) (rw (back (u .value)) (w .few (u .value) s at (u .place) line (u .first)));
+            let same = held-back to from f back (i .written-read (u .value) s at (u .place) line (u .first) .cleaned) in
+            same-lines (λ (x : B). f .lines (from x)) (u .then) (rw same (w .few (u .value) s at (u .place) line (u .first)));
       }
 
 module _ {A : Type 0} {f : Form A} {m : ℕ} (w : Placed f m) where
@@ -163,14 +165,14 @@ module _ {A : Type 0} {f : Form A} {m : ℕ} (w : Placed f m) where
       let (many, short) = reads-few n (x .value) s (u .place) (x .place) (line + f .lines (u .value)) (x .first) in
       rw (← found-value (x .then)) (ap suc many, omega arith)
 
-  pub times-placed : (n size : ℕ) (d : A) → Placed (times n size d f) (n * m)
-  times-placed n size d =
+  pub exactly-placed : (n size : ℕ) (d : A) → Placed (exactly n size d f) (n * m)
+  exactly-placed n size d =
       record {
         named = λ r s at line. then-refused (reads f n s at line) _ (reads-named n r s at line) (λ l end p q. absurd (not-both (sym q)));
         few = λ l s at next line e.
             let u = then-found (reads f n s at line) _ e in
             let (many, short) = reads-few n (u .value) s at (u .place) line (u .first) in
-            same-lines (times n size d f .lines) (u .then) (rw (first-pad n size d (u .value) many) short);
+            same-lines (exactly n size d f .lines) (u .then) (rw (first-pad n size d (u .value) many) short);
       }
 
 -- a whole card: what follows it has the line behind the last

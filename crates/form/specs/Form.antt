@@ -1,6 +1,6 @@
 -- A form says how a part of a card is written, checked and read. Every card is one form, put together from the forms of its lines, so that
--- reader, writer and check are judged by one description.
-use Prim.Native.Nat.{ℕ, zero, suc, _+_}
+-- reader, writer and check are foundIf by one description.
+use Prim.Native.Nat.{ℕ, zero, suc, _+_, min}
 use mathlib.Core.Bool.{cond}
 use mathlib.Core.List.{List, [], _∷_, _++_, map}
 use lib.ListN.{length, drop}
@@ -23,9 +23,9 @@ andThen (found a next) more = more a next
 andThen (refused r) more = refused r
 
 -- the value that a check lets pass
-abbrev pub judged : {A : Type 0} → Checked → A → ℕ → Found A
-judged Passed a next = found a next
-judged (Refused r) a next = refused r
+abbrev pub foundIf : {A : Type 0} → Checked → A → ℕ → Found A
+foundIf Passed a next = found a next
+foundIf (Refused r) a next = refused r
 
 -- two checks, of which the first refusal counts
 abbrev pub also : Checked → Checked → Checked
@@ -86,8 +86,8 @@ module _ {A : Type 0} (f : Form A) where
       andThen (f .read s at line) (λ a next. andThen (reads n s next (line + f .lines a)) (λ as′ end. found (a ∷ as′) end))
 
 -- n parts of one form, held in an array of some size; d is the filler
-abbrev pub times : {A : Type 0} → ℕ → ℕ → A → Form A → Form (List A)
-times n size d f =
+abbrev pub exactly : {A : Type 0} → ℕ → ℕ → A → Form A → Form (List A)
+exactly n size d f =
     record {
       text = λ l. texts f (firstOf n d l);
       lines = λ l. linesOf f (firstOf n d l);
@@ -95,6 +95,10 @@ times n size d f =
       read = λ s at line. andThen (reads f n s at line) (λ l end. found (padTo size d l) end);
       clean = λ l. padTo size d (map (f .clean) (firstOf n d l));
     }
+
+-- the same for any count: no more parts than the array has slots
+abbrev pub times : {A : Type 0} → ℕ → ℕ → A → Form A → Form (List A)
+times n size d f = exactly (min n size) size d f
 
 -- the same part held in another type
 abbrev pub held : {A B : Type 0} → (A → B) → (B → A) → Form A → Form B

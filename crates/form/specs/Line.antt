@@ -1,5 +1,5 @@
 -- Document 01, "Cards": what stands behind the key of a line.
-use Prim.Native.Nat.{ℕ, zero, suc}
+use Prim.Native.Nat.{ℕ, zero, suc, min}
 use mathlib.Core.Bool.{Bool, true, cond, _&&_}
 use mathlib.Core.List.{List, [], _∷_, _++_}
 use lib.ListN.{length}
@@ -12,7 +12,7 @@ use Rattle.text.specs.declared.NumberRead.{NumberRead}
 use Rattle.text.specs.declared.NumberRead.the-variants.{Value, NoNumber}
 use Rattle.text.specs.Number.{fieldAt}
 use Rattle.text.specs.Decimal.{field}
-use Rattle.form.specs.Form.{Found, found, refused, andThen, judged, Form}
+use Rattle.form.specs.Form.{Found, found, refused, andThen, foundIf, Form}
 
 -- a number of the wrong form is 1
 abbrev pub formed : ℕ → NumberRead → Found ℕ
@@ -34,7 +34,7 @@ number judge =
       text = λ n. field n true;
       lines = λ n. 1;
       check = judge;
-      read = λ s at line. andThen (formed line (fieldAt s at true)) (λ n next. judged (judge n line) n next);
+      read = λ s at line. andThen (formed line (fieldAt s at true)) (λ n next. foundIf (judge n line) n next);
       clean = λ n. n;
     }
 
@@ -57,12 +57,16 @@ abbrev pub itemsRanged : ℕ → ℕ → List ℕ → ℕ → Checked
 itemsRanged low high ns line = cond (allRanged low high ns) Passed (Refused (OutOfRange line))
 
 -- a list of exactly k numbers, held in an array of some size; the form of the whole line comes before the ranges
-abbrev pub items : ℕ → ℕ → ℕ → ℕ → Form (List ℕ)
-items k size low high =
+abbrev pub itemList : ℕ → ℕ → ℕ → ℕ → Form (List ℕ)
+itemList k size low high =
     record {
       text = λ ns. itemsText (firstOf k 0 ns);
       lines = λ ns. 1;
       check = λ ns line. itemsRanged low high (firstOf k 0 ns) line;
-      read = λ s at line. andThen (itemsAt k s at line) (λ ns next. judged (itemsRanged low high ns line) (padTo size 0 ns) next);
+      read = λ s at line. andThen (itemsAt k s at line) (λ ns next. foundIf (itemsRanged low high ns line) (padTo size 0 ns) next);
       clean = λ ns. padTo size 0 (firstOf k 0 ns);
     }
+
+-- the same for any count: no more numbers than the array has slots
+abbrev pub items : ℕ → ℕ → ℕ → ℕ → Form (List ℕ)
+items k size low high = itemList (min k size) size low high

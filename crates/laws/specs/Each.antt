@@ -1,5 +1,11 @@
--- A fact of every element of a list, element by element.
-use mathlib.Core.List.{List, [], _∷_, map}
+-- A fact of every element of a list.
+use Prim.Native.Nat.{ℕ, zero, suc, _<_, suc-le-suc}
+use mathlib.Core.List.{List, [], _∷_, _++_, map}
+use lib.ListN.{replicate, length, getD}
+use native.Mathlib.Nat.{not-suc-le-zero, le-of-suc-le-suc}
+use native.Mathlib.Omega.{arith}
+
+-- ---- A fact of every element of a list, element by element.
 
 module _ {ℓ} {A : Type ℓ} where
   abbrev pub Each : (A → Type 0) → List A → Type 0
@@ -18,3 +24,27 @@ module _ {ℓ} {A : Type ℓ} where
 pub each-mapped : {A B : Type 0} (P : B → Type 0) (f : A → B) (l : List A) → Each (λ a. P (f a)) l → Each P (map f l)
 each-mapped P f [] h = tt
 each-mapped P f (a ∷ l) h = (h .0, each-mapped P f l (h .1))
+
+-- of the images of any list, of two lists in a row, and of one element many times
+pub each-image : {A B : Type 0} (P : B → Type 0) (f : A → B) → ((a : A) → P (f a)) → (l : List A) → Each P (map f l)
+each-image P f h [] = tt
+each-image P f h (a ∷ l) = (h a, each-image P f h l)
+
+pub each-append : {A : Type 0} (P : A → Type 0) (l m : List A) → Each P l → Each P m → Each P (l ++ m)
+each-append P [] m h k = k
+each-append P (a ∷ l) m h k = (h .0, each-append P l m (h .1) k)
+
+pub each-replicate : {A : Type 0} (P : A → Type 0) (a : A) → P a → (n : ℕ) → Each P (replicate n a)
+each-replicate P a h zero = tt
+each-replicate P a h (suc n) = (h, each-replicate P a h n)
+
+-- ---- A fact of every element of a list, told by the index, and found by it.
+
+pub each-of {ℓ} : {A : Type ℓ} (P : A → Type 0) (d : A) (l : List A) → ((i : ℕ) → i < length l → P (getD l i d)) → Each P l
+each-of P d [] h = tt
+each-of P d (a ∷ l) h = (h 0 (omega arith), each-of P d l (λ i b. h (suc i) (suc-le-suc b)))
+
+pub each-at {ℓ} : {A : Type ℓ} (P : A → Type 0) (d : A) (l : List A) → Each P l → (i : ℕ) → i < length l → P (getD l i d)
+each-at P d [] h i b = absurd (not-suc-le-zero b)
+each-at P d (a ∷ l) h zero b = h .0
+each-at P d (a ∷ l) h (suc i) b = each-at P d l (h .1) i (le-of-suc-le-suc b)

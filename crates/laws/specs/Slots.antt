@@ -1,9 +1,17 @@
--- A list in an array: its first elements count, and the slots behind them hold a filler.
-use Prim.Native.Nat.{ℕ, zero, suc, _-_, _<_}
+-- The slots of an array that count: the first so many elements of a list, and a list brought to a size.
+use Prim.Native.Nat.{ℕ, zero, suc, _-_, _≤_, _<_, _+_}
 use native.Mathlib.Nat.{not-suc-le-zero, le-of-suc-le-suc}
-use mathlib.Core.List.{List, [], _∷_, _++_, map, append-nil}
+use native.Mathlib.Omega.{arith}
+use mathlib.Core.List.{List, [], _∷_, _++_, map}
 use mathlib.Core.Path.{_≡_, refl, sym, ap, _∙_}
-use lib.ListN.{length, getD, replicate, length-map, List·getD-map}
+use lib.ListN.{length, getD, replicate, length-map, length-append, length-replicate, List·getD-map, set, take, drop}
+use native.Mathlib.Numerals.{add-one}
+use mathlib.Core.Bool.{Bool, true, false}
+use lib.Dec.{eqb}
+use lib.Seq.{length-take-le, take-suc, set-append-seam, append-snoc, drop-cons}
+use borrow.Author.Tests.{eqb-true, eqb-false, eq-eqb, ne-eqb}
+
+-- ---- A list in an array: its first elements count, and the slots behind them hold a filler.
 
 module _ {ℓ} {A : Type ℓ} where
   -- the first n elements, with d for each that is missing
@@ -30,12 +38,6 @@ module _ {ℓ} {A : Type ℓ} where
   getD-first (suc n) d (a ∷ l) zero h = refl
   getD-first (suc n) d (a ∷ l) (suc i) h = getD-first n d l i (le-of-suc-le-suc h)
 
-  pub first-replicate : (n : ℕ) (d : A) (k : ℕ) → firstOf n d (replicate k d) ≡ replicate n d
-  unfolding firstOf
-  first-replicate zero d k = refl
-  first-replicate (suc n) d zero = ap (λ (l : List A). d ∷ l) (first-replicate n d zero)
-  first-replicate (suc n) d (suc k) = ap (λ (l : List A). d ∷ l) (first-replicate n d k)
-
   -- within the list the filler does not matter
   pub getD-within : (l : List A) (i : ℕ) (d d′ : A) → i < length l → getD l i d ≡ getD l i d′
   getD-within [] i d d′ h = absurd (not-suc-le-zero h)
@@ -48,9 +50,9 @@ module _ {ℓ} {A : Type ℓ} where
   first-append d [] m = refl
   first-append d (a ∷ l) m = ap (λ (k : List A). a ∷ k) (first-append d l m)
 
-  -- a list with no slots behind it
-  pub first-whole : (n : ℕ) (d : A) (l : List A) → length l ≡ n → firstOf n d l ≡ l
-  first-whole n d l e = rw (← e) (ap (firstOf (length l) d) (sym (append-nil l)) ∙ first-append d l [])
+  -- a list that fits is padded to the size
+  pub length-pad : (size : ℕ) (d : A) (l : List A) → length l ≤ size → length (padTo size d l) ≡ size
+  length-pad size d l h = omega (arith, length-append l (replicate (size - length l) d), length-replicate (size - length l) d)
 
   pub first-pad : (n size : ℕ) (d : A) (l : List A) → length l ≡ n → firstOf n d (padTo size d l) ≡ l
   first-pad n size d l e = rw (← e) (first-append d l (replicate (size - length l) d))
@@ -68,8 +70,38 @@ module _ {ℓ} {A : Type ℓ} where
   getD-kept n size d l i h = getD-padded (firstOf n d l) (size - length (firstOf n d l)) d i ∙ getD-first n d l i h
 
 -- a slot that counts, after each element was changed by f
-pub getD-changed {ℓ} : {A : Type ℓ} (f : A → A) (n size : ℕ) (d : A) (l : List A) (i : ℕ) → i < n → getD (padTo size d (map f (firstOf n d l))) i d ≡ f (getD l i d)
+pub getD-changed {ℓ} : {A : Type ℓ} (f : A → A) (n size : ℕ) (d : A) (l : List A) (i : ℕ) → i < n
+    → getD (padTo size d (map f (firstOf n d l))) i d ≡ f (getD l i d)
 getD-changed f n size d l i h =
     let m = map f (firstOf n d l) in
     let k : i < length m = rw (length-map (firstOf n d l) f, length-first n d l) h in
     getD-padded m (size - length m) d i ∙ getD-within m i d (f d) k ∙ List·getD-map f (firstOf n d l) i d ∙ ap f (getD-first n d l i h)
+
+-- ---- One slot more of a list in an array: a store behind what is held makes it one longer, and behind each counted slot lies the next.
+
+module _ {ℓ} {A : Type ℓ} where
+  pub pad-more : (size : ℕ) (d : A) (l : List A) (a : A) → length l < size → set (padTo size d l) (length l) a ≡ padTo size d (l ++ (a ∷ []))
+  pad-more size d l a h =
+      let one : size - length l ≡ suc (size - length (l ++ (a ∷ []))) = omega (arith, length-append l (a ∷ [])) in
+      rw one (set-append-seam l d (replicate (size - length (l ++ (a ∷ []))) d) a ∙ sym (append-snoc l a (replicate (size - length (l ++ (a ∷ []))) d)))
+
+  -- a list stored one element after the other: one more
+  pub pad-next : (size : ℕ) (d : A) (l : List A) (i : ℕ) → i < length l → length l ≤ size
+      → set (padTo size d (take i l)) i (getD l i d) ≡ padTo size d (take (i + 1) l)
+  pad-next size d l i h few =
+      let a = getD l i d in
+      let so-far : length (take i l) ≡ i = length-take-le i l (omega arith) in
+      let one-more : take i l ++ (a ∷ []) ≡ take (i + 1) l = rw add-one (sym (take-suc l i d h)) in
+      ap (λ (k : ℕ). set (padTo size d (take i l)) k a) (sym so-far) ∙ pad-more size d (take i l) a (omega arith) ∙ ap (padTo size d) one-more
+
+  pub first-next : (n : ℕ) (d : A) (l : List A) (i : ℕ) → i < n → drop i (firstOf n d l) ≡ getD l i d ∷ drop (i + 1) (firstOf n d l)
+  first-next n d l i h =
+      rw add-one (drop-cons (firstOf n d l) i d (omega (arith, length-first n d l)) ∙ ap (λ (a : A). a ∷ drop (suc i) (firstOf n d l)) (getD-first n d l i h))
+
+-- the last of a count, told by what is left
+pub last-left : (i count : ℕ) → i < count → eqb (i + 1) count ≡ eqb (count - (i + 1)) 0
+last-left i count h = go (eqb (i + 1) count) refl
+  where
+    go : (t : Bool) → eqb (i + 1) count ≡ t → t ≡ eqb (count - (i + 1)) 0
+    go true e = let same = eqb-true (i + 1) count e in sym (eq-eqb (count - (i + 1)) 0 (omega arith))
+    go false e = let other = eqb-false (i + 1) count e in sym (ne-eqb (count - (i + 1)) 0 (λ z. other (omega arith)))

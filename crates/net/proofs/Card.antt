@@ -1,43 +1,42 @@
 -- The net card is a format: each of its lines is one, and the counts of the first two lines bound how many follow. A number never begins
 -- like the word for no upper bound, since the word's first byte is no digit.
-use Prim.Native.Nat.{ℕ, _+_, _≤_, _<_}
+use Prim.Native.Nat.{ℕ, _+_, _-_, _≤_, _<_, min}
+use native.Mathlib.Nat.{min-le-right, min-eq-left}
 use native.Mathlib.Omega.{arith}
 use mathlib.Core.Path.{_≡_, refl, sym, ap, subst, _∙_}
 use mathlib.Core.Bool.{Bool, true, false, cond, _&&_}
 use mathlib.Core.Logic.{_↔_}
-use mathlib.Core.List.{List, _++_}
-use lib.ListN.{length, getD, take, drop}
-use lib.Seq.{take-at}
+use mathlib.Core.List.{List, _++_, map}
+use lib.ListN.{length, getD, take, drop, replicate, length-replicate, length-map}
 use lib.Dec.{lit<, leb, ltb}
-use Rattle.laws.specs.EachAt.{each-at}
-use Rattle.laws.specs.Slots.{firstOf, length-first, getD-first}
+use Rattle.laws.specs.Arrays.{filled-at}
+use Rattle.laws.specs.Each.{each-append, each-image, each-replicate, each-at}
+use Rattle.laws.specs.Slots.{firstOf, padTo, length-first, length-pad, getD-first}
 use Rattle.reply.specs.declared.Refusal.{Refusal}
 use Rattle.reply.specs.declared.Refusal.the-variants.{OutOfRange, LatestBelowEarliest}
 use Rattle.reply.specs.declared.Checked.the-variants.{Passed, Refused}
 use Rattle.reply.specs.Refusal.{positionOf}
-use Rattle.reply.specs.Respond.{answer}
-use Rattle.reply.proofs.Laws.{written-answer}
 use Rattle.text.specs.declared.NumberRead.the-variants.{Value, NoNumber}
 use Rattle.text.specs.Key.{bytes, beginsWith}
 use Rattle.text.specs.Number.{digitsOf, fieldAt}
 use Rattle.text.specs.Decimal.{field}
 use Rattle.text.proofs.KeyLaws.{begins-text, begins-split, begins-take}
 use Rattle.text.proofs.NumberLaws.{field-text, field-split, field-near, field-take}
-use Rattle.form.specs.Form.{found, refused, andThen, judged, also, keyed}
-use Rattle.form.specs.Line.{formed, ranged, number, itemsRanged}
+use Rattle.form.specs.Form.{found, refused, andThen, foundIf, also, keyed}
+use Rattle.form.specs.Line.{formed, ranged, number}
 use Rattle.form.specs.Inverse.{WasRead, Inverse, Settled, Reaches, Placed, Format}
 use Rattle.form.proofs.Found.{not-both, found-place, then-found, also-first, also-second, checks-each, judged-passed, judged-found}
 use Rattle.form.proofs.Combine.{was-same}
-use Rattle.form.proofs.Lines.{formed-value, ranged-within, ranged-small, items-within, word-was}
+use Rattle.form.proofs.Lines.{formed-value, ranged-within, ranged-small, word-was}
 use Rattle.form.proofs.Places.{OwnLine, line-placed, field-own}
-use Rattle.form.proofs.Format.{format-under, keyed-format, pair-format, held-format, times-format, ranged-format, items-format, counted-format}
+use Rattle.form.proofs.Format.{keyed-format, pair-format, held-format, times-format, ranged-format, items-format, counted-format}
 use Rattle.form.proofs.Card.{read-back, written-again, passes-exactly, text-short}
 use Rattle.net.specs.declared.Latest.{Latest}
 use Rattle.net.specs.declared.Latest.the-variants.{Unbounded, Ticks}
-use Rattle.net.specs.declared.Transition.{Transition}
 use Rattle.net.specs.declared.Net.{Net}
-use Rattle.net.specs.Net.{latestChecked, latest, weights, toTransition, fromTransition, transition, noTransition, starts, body, toNet, fromNet, netCard}
-use Rattle.net.specs.Code.{netText}
+use Rattle.net.specs.Net.{latestChecked, latest, weights, Row, toRow, fromRow, row, noRow, noTransition, starts, rows, body, netLines, rowAt, rowsOf}
+use Rattle.net.specs.Net.{toNet, fromNet, netCard}
+use Rattle.net.proofs.Rows.{Full, rows-back}
 
 -- where the word stands there is no number
 word-no-number : (s : List ℕ) (at : ℕ) → beginsWith (bytes "inf\n") (drop at s) ≡ true → fieldAt s at true ≡ NoNumber
@@ -56,11 +55,13 @@ module _ (earliest : ℕ) where
       → latest earliest .read s at line ≡ found l (at + length (latest earliest .text l))
   latest-back Unbounded s rest at line p e = rw (ap (beginsWith (bytes "inf\n")) e ∙ begins-text (bytes "inf\n") rest) refl
   latest-back (Ticks n) s rest at line p e =
-      let small = ranged-small 0 1000 (lit< tt) n line (also-first (ranged 0 1000 n line) (cond (ltb n earliest) (Refused (LatestBelowEarliest line)) Passed) p) in
+      let small = ranged-small 0 1000 (lit< tt) n line (also-first (ranged 0 1000 n line)
+      (cond (ltb n earliest) (Refused (LatestBelowEarliest line)) Passed) p) in
       let q = field-text n at true s rest small e in
       rw (number-no-word n at (at + length (field n true)) s q, q, p) refl
 
-  ticks-was : (l : Latest) (s : List ℕ) (at next line : ℕ) → andThen (formed line (fieldAt s at true)) (λ n to. judged (latestChecked earliest (Ticks n) line) (Ticks n) to) ≡ found l next
+  ticks-was : (l : Latest) (s : List ℕ) (at next line : ℕ) → andThen (formed line (fieldAt s at true))
+      (λ n to. foundIf (latestChecked earliest (Ticks n) line) (Ticks n) to) ≡ found l next
       → WasRead (latest earliest) l s at next line
   ticks-was l s at next line e =
       let u = then-found (formed line (fieldAt s at true)) _ e in
@@ -73,7 +74,8 @@ module _ (earliest : ℕ) where
   latest-was l s at next line = go (beginsWith (bytes "inf\n") (drop at s)) refl
     where
       go : (t : Bool) → beginsWith (bytes "inf\n") (drop at s) ≡ t
-          → cond t (found Unbounded (at + length (bytes "inf\n"))) (andThen (formed line (fieldAt s at true)) (λ n to. judged (latestChecked earliest (Ticks n) line) (Ticks n) to)) ≡ found l next
+          → cond t (found Unbounded (at + length (bytes "inf\n")))
+          (andThen (formed line (fieldAt s at true)) (λ n to. foundIf (latestChecked earliest (Ticks n) line) (Ticks n) to)) ≡ found l next
           → WasRead (latest earliest) l s at next line
       go true t e = was-same (latest earliest) e (word-was (latest earliest) Unbounded s at line refl refl t)
       go false t e = ticks-was l s at next line e
@@ -81,7 +83,8 @@ module _ (earliest : ℕ) where
   latest-near : (l : Latest) (s : List ℕ) (at next line : ℕ) → latest earliest .read s at line ≡ found l next → next ≤ at + 10
   latest-near l s at next line = go (beginsWith (bytes "inf\n") (drop at s))
     where
-      go : (t : Bool) → cond t (found Unbounded (at + length (bytes "inf\n"))) (andThen (formed line (fieldAt s at true)) (λ n to. judged (latestChecked earliest (Ticks n) line) (Ticks n) to)) ≡ found l next
+      go : (t : Bool) → cond t (found Unbounded (at + length (bytes "inf\n")))
+          (andThen (formed line (fieldAt s at true)) (λ n to. foundIf (latestChecked earliest (Ticks n) line) (Ticks n) to)) ≡ found l next
           → next ≤ at + 10
       go true e = omega (arith, found-place e)
       go false e =
@@ -104,7 +107,7 @@ module _ (earliest : ℕ) where
     where
       go : (r : Refusal) (s : List ℕ) (at line : ℕ) (t : Bool)
           → cond t (found Unbounded (at + length (bytes "inf\n")))
-          (andThen (formed line (fieldAt s at true)) (λ n to. judged (latestChecked earliest (Ticks n) line) (Ticks n) to)) ≡ refused r → positionOf r ≡ line
+          (andThen (formed line (fieldAt s at true)) (λ n to. foundIf (latestChecked earliest (Ticks n) line) (Ticks n) to)) ≡ refused r → positionOf r ≡ line
       go r s at line true e = absurd (not-both (sym e))
       go r s at line false e = field-own (latestChecked earliest) Ticks latest-own line (fieldAt s at true) e
 
@@ -122,18 +125,42 @@ module _ (earliest : ℕ) where
       }
 
 -- ---- the lines put together
-weights-format : (places : ℕ) → Format (places ≤ 16) (weights places) 330 2
-weights-format places = pair-format (items-format (bytes "take=") places 16 0 255 (lit< tt) (λ h. h)) (items-format (bytes "give=") places 16 0 255 (lit< tt) (λ h. h))
+weights-format : (places : ℕ) → Format (Unit {0}) (weights places) 330 2
+weights-format places = pair-format (items-format (bytes "take=") places 16 0 255 (lit< tt)) (items-format (bytes "give=") places 16 0 255 (lit< tt))
 
-transition-format : (places : ℕ) → Format (places ≤ 16) (transition places) 366 4
-transition-format places =
-    held-format toTransition fromTransition (λ v. refl)
-    (counted-format (bytes "earliest=") 0 1000 (lit< tt) (λ n. pair-format (keyed-format (bytes "latest=") (latest-format n)) (weights-format places)) (λ n l h. h))
+row-format : (places : ℕ) → Format (Unit {0}) (row places) 366 4
+row-format places =
+    held-format toRow fromRow (λ v. refl)
+    (counted-format (bytes "earliest=") 0 1000 (lit< tt) (λ n. pair-format (keyed-format (bytes "latest=") (latest-format n)) (weights-format places))
+    (λ n l h. h))
 
-body-format : (places transitions : ℕ) → Format ((places ≤ 16) × (transitions ≤ 32)) (body places transitions) 11968 144
+body-format : (places transitions : ℕ) → Format (Unit {0}) (body places transitions) 11968 144
 body-format places transitions =
-    pair-format (times-format places 16 0 (λ h. h .0) (ranged-format (bytes "start=") 0 255 (lit< tt)))
-    (times-format transitions 32 noTransition (λ h. h .1) (format-under (λ h. h .0) (transition-format places)))
+    pair-format (times-format places 16 0 (ranged-format (bytes "start=") 0 255 (lit< tt))) (times-format transitions 32 noRow (row-format places))
+
+-- ---- rows in their arrays
+-- what is clean has full rows
+full-list : (k : ℕ) (l : List ℕ) → length (padTo 16 0 (firstOf (min k 16) 0 l)) ≡ 16
+full-list k l = length-pad 16 0 (firstOf (min k 16) 0 l) (omega (arith, length-first (min k 16) 0 l, min-le-right k 16))
+
+full-row : (places : ℕ) (r : Row) → Full (row places .clean r)
+full-row places r = (full-list places (r .take), full-list places (r .give))
+
+clean-back : (v : ℕ × (ℕ × (List ℕ × List Row))) → fromNet (toNet (netLines .clean v)) ≡ netLines .clean v
+clean-back v =
+    let places = v .0 in
+    let n = min (v .1 .0) 32 in
+    let m = map (row places .clean) (firstOf n noRow (v .1 .1 .1)) in
+    let few : length m ≤ 32 = omega (
+      arith,
+      length-map (firstOf n noRow (v .1 .1 .1)) (row places .clean),
+      length-first n noRow (v .1 .1 .1),
+      min-le-right (v .1 .0) 32,
+    ) in
+    let full = each-append Full m (replicate (32 - length m) noRow)
+    (each-image Full (row places .clean) (full-row places) (firstOf n noRow (v .1 .1 .1))) (each-replicate Full noRow (refl, refl) (32 - length m)) in
+    let e = rows-back places (v .1 .0) (starts places .clean (v .1 .1 .0)) (padTo 32 noRow m) (length-pad 32 noRow m few) full in
+    ap (λ (x : List Row). (places, (v .1 .0, (starts places .clean (v .1 .1 .0), x)))) e
 
 -- as many bytes as a reading of a net card looks at
 abbrev pub netReach : ℕ
@@ -142,10 +169,10 @@ netReach = 12007
 -- a net card has 146 lines at most: two counts, 16 starts, and four lines for each of 32 transitions
 net-format : Format (Unit {0}) netCard netReach 146
 net-format =
-    held-format toNet fromNet (λ v. refl)
+    held-format toNet fromNet clean-back
     (counted-format (bytes "places=") 1 16 (lit< tt)
-    (λ places. counted-format (bytes "transitions=") 1 32 (lit< tt) (body-format places) (λ transitions few h. (h, few)))
-    (λ places few h. few))
+    (λ places. counted-format (bytes "transitions=") 1 32 (lit< tt) (body-format places) (λ transitions few h. h))
+    (λ places few h. h))
 
 pub net-inverse : Inverse netCard
 net-inverse = net-format .inverse tt
@@ -189,51 +216,34 @@ net-transitions n p =
     ranged-within 1 32 (n .transitions) 2
     (also-first (ranged 1 32 (n .transitions) 2) _ (also-second (ranged 1 16 (n .places) 1) _ p))
 
+-- the lines behind the counts
+behind-counts : (n : Net) → netCard .check n 1 ≡ Passed → also (starts (n .places) .check (n .start) 3)
+    (rows (n .places) (n .transitions) .check (rowsOf n) (3 + starts (n .places) .lines (n .start))) ≡ Passed
+behind-counts n e = also-second (ranged 1 32 (n .transitions) 2) _ (also-second (ranged 1 16 (n .places) 1) _ e)
+
 -- its start
 pub net-start : (n : Net) → netCard .check n 1 ≡ Passed → (p : ℕ) → p < n .places → getD (n .start) p 0 ≤ 255
 net-start n e p h =
-    let listed = firstOf (n .places) 0 (n .start) in
-    let behind = also-second (ranged 1 32 (n .transitions) 2) _ (also-second (ranged 1 16 (n .places) 1) _ e) in
-    let each =
-    checks-each (keyed (bytes "start=") (number (ranged 0 255))) (λ (x : ℕ). x ≤ 255) (λ x line q. ranged-within 0 255 x line q .1) listed _
-    (also-first (starts (n .places) .check (n .start) 3) _ behind) in
-    rw getD-first at (each-at (λ (x : ℕ). x ≤ 255) 0 listed each p (omega (arith, length-first (n .places) 0 (n .start))))
+    let k = min (n .places) 16 in
+    let all : k ≡ n .places = min-eq-left (net-places n e .1) in
+    let listed = firstOf k 0 (n .start) in
+    let each = checks-each (keyed (bytes "start=") (number (ranged 0 255))) (λ (x : ℕ). x ≤ 255) (λ x line q. ranged-within 0 255 x line q .1) listed _
+    (also-first (starts (n .places) .check (n .start) 3) _ (behind-counts n e)) in
+    subst (λ (x : ℕ). x ≤ 255) (getD-first k 0 (n .start) p (omega arith))
+    (each-at (λ (x : ℕ). x ≤ 255) 0 listed each p (omega (arith, length-first k 0 (n .start))))
 
--- and its transitions: each passes a check of its own
-module _ (n : Net) (p : netCard .check n 1 ≡ Passed) (t : ℕ) (h : t < n .transitions) where
-  of-transition : (P : Transition → Type 0) → ((x : Transition) (line : ℕ) → transition (n .places) .check x line ≡ Passed → P x) → P (getD (n .table) t noTransition)
-  of-transition P f =
-      let listed = firstOf (n .transitions) noTransition (n .table) in
-      let behind = also-second (ranged 1 32 (n .transitions) 2) _ (also-second (ranged 1 16 (n .places) 1) _ p) in
-      let each = checks-each (transition (n .places)) P f listed _ (also-second (starts (n .places) .check (n .start) 3) _ behind) in
-      rw getD-first at (each-at P noTransition listed each t (omega (arith, length-first (n .transitions) noTransition (n .table))))
-
-  pub net-earliest : getD (n .table) t noTransition .earliest ≤ 1000
-  net-earliest =
-      of-transition (λ (x : Transition). x .earliest ≤ 1000)
-      (λ x line e. ranged-within 0 1000 (x .earliest) line (also-first (ranged 0 1000 (x .earliest) line) _ e) .1)
-
-  pub net-weights : (k : ℕ) → k < n .places → (getD (getD (n .table) t noTransition .take) k 0 ≤ 255) × (getD (getD (n .table) t noTransition .give) k 0 ≤ 255)
-  net-weights k b =
-      of-transition (λ (x : Transition). (getD (x .take) k 0 ≤ 255) × (getD (x .give) k 0 ≤ 255))
-      (λ x line e.
-      let behind = also-second (latestChecked (x .earliest) (x .latest) (line + 1)) _ (also-second (ranged 0 1000 (x .earliest) line) _ e) in
-      let taken = itemsRanged 0 255 (firstOf (n .places) 0 (x .take)) (line + 1 + 1) in
-      let given = itemsRanged 0 255 (firstOf (n .places) 0 (x .give)) (line + 1 + 1 + 1) in
-      (items-within (n .places) 16 0 255 (x .take) _ (also-first taken given behind) k b .1, items-within (n .places) 16 0 255 (x .give) _ (also-second taken given behind) k b .1))
-
--- what is no part of a net lies in its arrays alone
-pub net-clean : (n : Net) → (netCard .clean n .places ≡ n .places) × (netCard .clean n .transitions ≡ n .transitions)
-net-clean n = (refl, refl)
-
--- the same of the operations: what was written is read back, and what was read is written again
-pub net-text-back : (n : Net) (bytes rest : List ℕ) → netText n ≡ answer bytes → netCard .read (bytes ++ rest) 0 1 ≡ found (netCard .clean n) (length bytes)
-net-text-back n bytes rest e =
-    let w = written-answer (netCard .check n 1) (netCard .text n) e in
-    subst (λ (t : List ℕ). netCard .read (t ++ rest) 0 1 ≡ found (netCard .clean n) (length t)) (w .1) (net-read-back n rest (w .0))
-
-pub net-text-again : (n : Net) (next : ℕ) (s : List ℕ) → netCard .read s 0 1 ≡ found n next → netText n ≡ answer (take next s)
-net-text-again n next s e =
-    let w = net-inverse .written-read n s 0 next 1 e in
-    let t : take next s ≡ netCard .text n = ap (λ (l : List ℕ). take next l) (w .bytes) ∙ take-at (netCard .text n) (drop next s) next (omega (arith, w .end)) in
-    rw (w .passed, t) refl
+-- its lower bounds
+pub net-earliest : (n : Net) → netCard .check n 1 ≡ Passed → (t : ℕ) → t < n .transitions → getD (n .table) t noTransition .earliest ≤ 1000
+unfolding rowsOf
+net-earliest n p t h =
+    let few = net-transitions n p .1 in
+    let k = min (n .transitions) 32 in
+    let all : k ≡ n .transitions = min-eq-left few in
+    let listed = firstOf k noRow (rowsOf n) in
+    let P : Row → Type 0 = λ r. r .interval .earliest ≤ 1000 in
+    let each = checks-each (row (n .places)) P (λ r line e. ranged-within 0 1000 (r .interval .earliest) line
+    (also-first (ranged 0 1000 (r .interval .earliest) line) _ e) .1) listed _
+    (also-second (starts (n .places) .check (n .start) 3) _ (behind-counts n p)) in
+    let found-row = getD-first k noRow (rowsOf n) t (omega arith)
+    ∙ filled-at (rowAt n) (replicate 32 noRow) noRow 32 t (omega arith) (omega (arith, length-replicate 32 noRow)) in
+    subst P found-row (each-at P noRow listed each t (omega (arith, length-first k noRow (rowsOf n))))

@@ -1,5 +1,3 @@
 pub mod Card
-pub mod Check
-pub mod Read
+pub mod Rows
 pub mod Same
-pub mod Write

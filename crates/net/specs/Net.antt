@@ -1,16 +1,18 @@
 -- Document 01, "Cards": the net card, line by line.
-use Prim.Native.Nat.{ℕ, _+_}
+use Prim.Native.Nat.{ℕ, _+_, _*_, _/_, _%_}
 use mathlib.Core.Bool.{true, cond}
-use mathlib.Core.List.{List}
-use lib.ListN.{length, drop, replicate}
+use mathlib.Core.List.{List, map}
+use lib.ListN.{length, getD, drop, replicate}
 use lib.Dec.{ltb}
+use Rattle.laws.specs.Arrays.{filled}
 use Rattle.reply.specs.declared.Refusal.the-variants.{LatestBelowEarliest}
 use Rattle.reply.specs.declared.Checked.{Checked}
 use Rattle.reply.specs.declared.Checked.the-variants.{Passed, Refused}
+use Rattle.reply.specs.Respond.{Outcome, writtenIf}
 use Rattle.text.specs.Key.{bytes, beginsWith}
 use Rattle.text.specs.Number.{fieldAt}
 use Rattle.text.specs.Decimal.{field}
-use Rattle.form.specs.Form.{found, andThen, judged, also, Form, keyed, chain, times, held}
+use Rattle.form.specs.Form.{found, andThen, foundIf, also, Form, keyed, chain, times, held}
 use Rattle.form.specs.Line.{formed, ranged, number, items}
 use Rattle.net.specs.declared.Latest.{Latest}
 use Rattle.net.specs.declared.Latest.the-variants.{Unbounded, Ticks}
@@ -34,7 +36,7 @@ latest earliest =
       check = latestChecked earliest;
       read = λ s at line.
           cond (beginsWith (bytes "inf\n") (drop at s)) (found Unbounded (at + length (bytes "inf\n")))
-          (andThen (formed line (fieldAt s at true)) (λ n next. judged (latestChecked earliest (Ticks n) line) (Ticks n) next));
+          (andThen (formed line (fieldAt s at true)) (λ n next. foundIf (latestChecked earliest (Ticks n) line) (Ticks n) next));
       clean = λ l. l;
     }
 
@@ -42,45 +44,93 @@ latest earliest =
 abbrev pub weights : ℕ → Form (List ℕ × List ℕ)
 weights places = chain (keyed (bytes "take=") (items places 16 0 255)) (λ _. keyed (bytes "give=") (items places 16 0 255))
 
-abbrev pub transitionLines : ℕ → Form (ℕ × (Latest × (List ℕ × List ℕ)))
-transitionLines places =
+abbrev pub rowLines : ℕ → Form (ℕ × (Latest × (List ℕ × List ℕ)))
+rowLines places =
     chain (keyed (bytes "earliest=") (number (ranged 0 1000)))
     (λ earliest. chain (keyed (bytes "latest=") (latest earliest)) (λ _. weights places))
 
-abbrev pub toTransition : ℕ × (Latest × (List ℕ × List ℕ)) → Transition
-toTransition v = record { earliest = v .0; latest = v .1 .0; take = v .1 .1 .0; give = v .1 .1 .1 }
+-- what the four lines of a transition say: its interval, and the weights that it takes from and gives to each place
+pub record Row : Type 0 where
+  pub interval : Transition
+  pub take : List ℕ
+  pub give : List ℕ
 
-abbrev pub fromTransition : Transition → ℕ × (Latest × (List ℕ × List ℕ))
-fromTransition t = (t .earliest, (t .latest, (t .take, t .give)))
+abbrev pub toRow : ℕ × (Latest × (List ℕ × List ℕ)) → Row
+toRow v = record { interval = record { earliest = v .0; latest = v .1 .0 }; take = v .1 .1 .0; give = v .1 .1 .1 }
 
-abbrev pub transition : ℕ → Form Transition
-transition places = held toTransition fromTransition (transitionLines places)
+abbrev pub fromRow : Row → ℕ × (Latest × (List ℕ × List ℕ))
+fromRow t = (t .interval .earliest, (t .interval .latest, (t .take, t .give)))
 
--- what an array of transitions holds behind its last one
+abbrev pub row : ℕ → Form Row
+row places = held toRow fromRow (rowLines places)
+
+-- what stands for a transition that is none, and for its lines
 abbrev pub noTransition : Transition
-noTransition = record { earliest = 0; latest = Unbounded; take = replicate 16 0; give = replicate 16 0 }
+noTransition = record { earliest = 0; latest = Unbounded }
+
+abbrev pub noRow : Row
+noRow = record { interval = noTransition; take = replicate 16 0; give = replicate 16 0 }
 
 -- the lines of a net card: `places` P (1 to 16), `transitions` T (1 to 32), P lines `start` (0 to 255), T transitions
 abbrev pub starts : ℕ → Form (List ℕ)
 starts places = times places 16 0 (keyed (bytes "start=") (number (ranged 0 255)))
 
-abbrev pub table : ℕ → ℕ → Form (List Transition)
-table places transitions = times transitions 32 noTransition (transition places)
+abbrev pub rows : ℕ → ℕ → Form (List Row)
+rows places transitions = times transitions 32 noRow (row places)
 
-abbrev pub body : ℕ → ℕ → Form (List ℕ × List Transition)
-body places transitions = chain (starts places) (λ _. table places transitions)
+abbrev pub body : ℕ → ℕ → Form (List ℕ × List Row)
+body places transitions = chain (starts places) (λ _. rows places transitions)
 
-abbrev pub netLines : Form (ℕ × (ℕ × (List ℕ × List Transition)))
+abbrev pub netLines : Form (ℕ × (ℕ × (List ℕ × List Row)))
 netLines =
     chain (keyed (bytes "places=") (number (ranged 1 16)))
     (λ places. chain (keyed (bytes "transitions=") (number (ranged 1 32))) (λ transitions. body places transitions))
 
-abbrev pub toNet : ℕ × (ℕ × (List ℕ × List Transition)) → Net
-toNet v = record { places = v .0; transitions = v .1 .0; start = v .1 .1 .0; table = v .1 .1 .1 }
+-- where the weights stand: the tokens that t takes from and gives to place p
+abbrev pub takesIn : List ℕ → ℕ → ℕ → ℕ
+takesIn take t p = getD take (32 * p + t) 0
 
-abbrev pub fromNet : Net → ℕ × (ℕ × (List ℕ × List Transition))
-fromNet n = (n .places, (n .transitions, (n .start, n .table)))
+abbrev pub givesIn : List ℕ → ℕ → ℕ → ℕ
+givesIn give t p = getD give (16 * t + p) 0
+
+-- the weights of rows in their arrays
+unfoldable pub takeOf : List Row → List ℕ
+takeOf rs = filled (λ i. getD (getD rs (i % 32) noRow .take) (i / 32) 0) 512 (replicate 512 0)
+
+unfoldable pub giveOf : List Row → List ℕ
+giveOf rs = filled (λ i. getD (getD rs (i / 16) noRow .give) (i % 16) 0) 512 (replicate 512 0)
+
+-- the row of transition t, and all rows of a net
+abbrev pub rowAt : Net → ℕ → Row
+rowAt n t =
+    record {
+      interval = getD (n .table) t noTransition;
+      take = filled (takesIn (n .take) t) 16 (replicate 16 0);
+      give = filled (givesIn (n .give) t) 16 (replicate 16 0);
+    }
+
+unfoldable pub rowsOf : Net → List Row
+rowsOf n = filled (rowAt n) 32 (replicate 32 noRow)
+
+abbrev pub toNet : ℕ × (ℕ × (List ℕ × List Row)) → Net
+toNet v =
+    let rs = v .1 .1 .1 in
+    record {
+      places = v .0;
+      transitions = v .1 .0;
+      start = v .1 .1 .0;
+      take = takeOf rs;
+      give = giveOf rs;
+      table = map (λ (r : Row). r .interval) rs;
+    }
+
+abbrev pub fromNet : Net → ℕ × (ℕ × (List ℕ × List Row))
+fromNet n = (n .places, (n .transitions, (n .start, rowsOf n)))
 
 -- the net card
 abbrev pub netCard : Form Net
 netCard = held toNet fromNet netLines
+
+-- a net's card, or the refusal that its card would get
+abbrev pub netText : Net → Outcome
+netText n = writtenIf (netCard .check n 1) (netCard .text n)

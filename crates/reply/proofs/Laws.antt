@@ -5,7 +5,7 @@ use mathlib.Core.Path.{_≡_, refl, sym}
 use mathlib.Core.Bool.{Bool, true, false, cond}
 use mathlib.Core.Logic.{_↔_}
 use mathlib.Core.List.{List, _++_}
-use lib.ListN.{length, take, drop, replicate, length-replicate}
+use lib.ListN.{length, drop, replicate, length-replicate}
 use lib.Seq.{take-append-seam, drop-append-seam}
 use lib.Dec.{ltb}
 use borrow.Author.Tests.{ltb-true, ltb-false, lt-ltb, le-ltb}
@@ -14,7 +14,7 @@ use Rattle.reply.specs.declared.Refusal.the-variants.{OutputTooShort}
 use Rattle.reply.specs.declared.Checked.{Checked}
 use Rattle.reply.specs.declared.Checked.the-variants as checked
 use Rattle.reply.specs.declared.Reply.the-variants.{Written, Refused}
-use Rattle.reply.specs.Respond.{Outcome, answer, refusal, writtenIf, Answered, replyTo, outputOf, Responded}
+use Rattle.reply.specs.Respond.{Outcome, answer, refusal, writtenIf, Answered, replyTo, outputOf, Responded, Filled}
 
 -- nothing is altered on a refusal
 pub refused-alters-nothing : (o : Outcome) (out : List ℕ) (r : Refusal) → replyTo o out ≡ Refused r → outputOf o out ≡ out
@@ -24,13 +24,6 @@ refused-alters-nothing (answer bytes) out r = go (ltb (length out) (length bytes
     go true e = refl
     go false e = let z : _≡_ {A = ℕ} 0 1 = cc in absurd (omega arith)
 refused-alters-nothing (refusal r′) out r = λ e. refl
-
--- a reply `Written n` comes with the n bytes of the answer at the front, and the bytes behind them stay
-pub record Filled (bytes out after : List ℕ) (n : ℕ) : Type 0 where
-  pub all : n ≡ length bytes
-  pub fits : n ≤ length out
-  pub front : take n after ≡ bytes
-  pub behind : drop n after ≡ drop n out
 
 pub written-fills : (bytes out : List ℕ) (n : ℕ) → replyTo (answer bytes) out ≡ Written n → Filled bytes out (outputOf (answer bytes) out) n
 written-fills bytes out n = go (ltb (length out) (length bytes)) refl
@@ -51,7 +44,8 @@ written-fills bytes out n = go (ltb (length out) (length bytes)) refl
 pub too-short : (bytes out : List ℕ) → (replyTo (answer bytes) out ≡ Refused OutputTooShort) ↔ (length out < length bytes)
 too-short bytes out = (go (ltb (length out) (length bytes)) refl, λ h. rw (lt-ltb (length out) (length bytes) h))
   where
-    go : (t : Bool) → ltb (length out) (length bytes) ≡ t → cond t (Refused OutputTooShort) (Written (length bytes)) ≡ Refused OutputTooShort → length out < length bytes
+    go : (t : Bool) → ltb (length out) (length bytes) ≡ t → cond t (Refused OutputTooShort) (Written (length bytes)) ≡ Refused OutputTooShort
+        → length out < length bytes
     go true q e = ltb-true (length out) (length bytes) q
     go false q e = let z : _≡_ {A = ℕ} 0 1 = cc in absurd (omega arith)
 

@@ -1,7 +1,8 @@
 -- Document 01, "Who can cause a refusal": the number and the place of each refusal.
 use Prim.Native.Nat.{ℕ}
 use Rattle.reply.specs.declared.Refusal.{Refusal}
-use Rattle.reply.specs.declared.Refusal.the-variants.{Malformed, OutOfRange, LatestBelowEarliest, NoSuchTransition, NotEnabled, TooManyTokens, OutsideInterval, Untimable, OutputTooShort}
+use Rattle.reply.specs.declared.Refusal.the-variants.{Malformed, OutOfRange, LatestBelowEarliest, NoSuchTransition, NotEnabled, TooManyTokens}
+use Rattle.reply.specs.declared.Refusal.the-variants.{OutsideInterval, Untimable, OutputTooShort}
 
 abbrev pub numberOf : Refusal → ℕ
 numberOf (Malformed line) = 1

@@ -1,9 +1,9 @@
 -- What an operation's outcome means for the caller's reply and the caller's output.
-use Prim.Native.Nat.{ℕ}
+use Prim.Native.Nat.{ℕ, _≤_}
 use mathlib.Core.Path.{_≡_}
 use mathlib.Core.Bool.{cond}
 use mathlib.Core.List.{List, _++_}
-use lib.ListN.{length, drop}
+use lib.ListN.{length, take, drop}
 use lib.Dec.{ltb}
 use Rattle.reply.specs.declared.Refusal.{Refusal}
 use Rattle.reply.specs.declared.Refusal.the-variants.{OutputTooShort}
@@ -40,3 +40,10 @@ outputOf (refusal r) out = out
 pub record Responded (o : Outcome) (entry : List ℕ) (r : Reply) (exit : List ℕ) : Type 0 where
   pub reply : r ≡ replyTo o entry
   pub output : exit ≡ outputOf o entry
+
+-- a reply `Written n` comes with the n bytes of the answer at the front, and the bytes behind them stay
+pub record Filled (bytes out after : List ℕ) (n : ℕ) : Type 0 where
+  pub all : n ≡ length bytes
+  pub fits : n ≤ length out
+  pub front : take n after ≡ bytes
+  pub behind : drop n after ≡ drop n out

@@ -19,7 +19,7 @@ use Rattle.form.proofs.Found.{not-both, refused-same}
 use Rattle.form.proofs.Combine.{was-same}
 use Rattle.form.proofs.Lines.{word-was}
 use Rattle.form.proofs.Places.{line-placed}
-use Rattle.form.proofs.Format.{format-under, keyed-format, pair-format, held-format, times-format, ranged-format, listed-format, counted-format}
+use Rattle.form.proofs.Format.{keyed-format, pair-format, held-format, times-format, ranged-format, listed-format, counted-format}
 use Rattle.run.specs.declared.Memory.{Memory}
 use Rattle.run.specs.declared.Memory.the-variants.{Intermediate, Atomic}
 use Rattle.run.specs.Run.{memory, fire, toFiring, fromFiring, firing, noFiring, steps, toRun, fromRun, runCard, toOrder, fromOrder, orderCard}
@@ -33,7 +33,8 @@ memory-back Atomic s rest at line p e =
     rw (other, ap (beginsWith (bytes "atomic\n")) e ∙ begins-text (bytes "atomic\n") rest) refl
 
 module _ (m : Memory) (s : List ℕ) (at next line : ℕ) where
-  atomic-was : (t : Bool) → beginsWith (bytes "atomic\n") (drop at s) ≡ t → cond t (found Atomic (at + length (bytes "atomic\n"))) (refused (Malformed line)) ≡ found m next
+  atomic-was : (t : Bool) → beginsWith (bytes "atomic\n") (drop at s) ≡ t
+      → cond t (found Atomic (at + length (bytes "atomic\n"))) (refused (Malformed line)) ≡ found m next
       → WasRead memory m s at next line
   atomic-was true t e = was-same memory e (word-was memory Atomic s at line refl refl t)
   atomic-was false t e = absurd (not-both e)
@@ -42,7 +43,8 @@ module _ (m : Memory) (s : List ℕ) (at next line : ℕ) where
   memory-was = go (beginsWith (bytes "intermediate\n") (drop at s)) refl
     where
       go : (t : Bool) → beginsWith (bytes "intermediate\n") (drop at s) ≡ t
-          → cond t (found Intermediate (at + length (bytes "intermediate\n"))) (cond (beginsWith (bytes "atomic\n") (drop at s)) (found Atomic (at + length (bytes "atomic\n"))) (refused (Malformed line))) ≡ found m next
+          → cond t (found Intermediate (at + length (bytes "intermediate\n")))
+          (cond (beginsWith (bytes "atomic\n") (drop at s)) (found Atomic (at + length (bytes "atomic\n"))) (refused (Malformed line))) ≡ found m next
           → WasRead memory m s at next line
       go true t e = was-same memory e (word-was memory Intermediate s at line refl refl t)
       go false t e = atomic-was (beginsWith (bytes "atomic\n") (drop at s)) refl e
@@ -52,10 +54,12 @@ memory-short Intermediate = omega arith
 memory-short Atomic = omega arith
 
 memory-placed : Placed memory 1
-memory-placed = line-placed (λ r s at line. go r at line (beginsWith (bytes "intermediate\n") (drop at s)) (beginsWith (bytes "atomic\n") (drop at s))) (λ m. refl)
+memory-placed = line-placed (λ r s at line. go r at line (beginsWith (bytes "intermediate\n") (drop at s))
+    (beginsWith (bytes "atomic\n") (drop at s))) (λ m. refl)
   where
     go : (r : Refusal) (at line : ℕ) (t u : Bool)
-        → cond t (found Intermediate (at + length (bytes "intermediate\n"))) (cond u (found Atomic (at + length (bytes "atomic\n"))) (refused (Malformed line))) ≡ refused r
+        → cond t (found Intermediate (at + length (bytes "intermediate\n")))
+        (cond u (found Atomic (at + length (bytes "atomic\n"))) (refused (Malformed line))) ≡ refused r
         → positionOf r ≡ line
     go r at line true u e = absurd (not-both (sym e))
     go r at line false true e = absurd (not-both (sym e))
@@ -79,14 +83,14 @@ fire-format : (transitions : ℕ) → Format (transitions ≤ 32) (fire transiti
 fire-format transitions = listed-format (bytes "fire=") transitions (λ h. omega arith)
 
 firing-format : (transitions : ℕ) → Format (transitions ≤ 32) (firing transitions) 30 2
-firing-format transitions = held-format toFiring fromFiring (λ v. refl) (pair-format (ranged-format (bytes "wait=") 0 10000000 (lit< tt)) (fire-format transitions))
+firing-format transitions = held-format toFiring fromFiring (λ v. refl)
+    (pair-format (ranged-format (bytes "wait=") 0 10000000 (lit< tt)) (fire-format transitions))
 
-steps-format : (transitions count : ℕ) → Format ((transitions ≤ 32) × (count ≤ 64)) (steps transitions count) 1935 129
-steps-format transitions count =
-    pair-format (times-format count 64 noFiring (λ h. h .1) (format-under (λ h. h .0) (firing-format transitions))) (ranged-format (bytes "rest=") 0 10000000 (lit< tt))
+steps-format : (transitions count : ℕ) → Format (transitions ≤ 32) (steps transitions count) 1935 129
+steps-format transitions count = pair-format (times-format count 64 noFiring (firing-format transitions)) (ranged-format (bytes "rest=") 0 10000000 (lit< tt))
 
-fires-format : (transitions count : ℕ) → Format ((transitions ≤ 32) × (count ≤ 64)) (times count 64 0 (fire transitions)) 960 64
-fires-format transitions count = times-format count 64 0 (λ h. h .1) (format-under (λ h. h .0) (fire-format transitions))
+fires-format : (transitions count : ℕ) → Format (transitions ≤ 32) (times count 64 0 (fire transitions)) 960 64
+fires-format transitions count = times-format count 64 0 (fire-format transitions)
 
 -- as many bytes as a reading of a run card, and of an order card, looks at
 abbrev pub runReach : ℕ
@@ -101,10 +105,10 @@ run-format transitions =
     held-format toRun fromRun (λ v. refl)
     (pair-format (keyed-format (bytes "memory=") memory-format)
     (pair-format (ranged-format (bytes "denominator=") 1 1000 (lit< tt))
-    (counted-format (bytes "firings=") 0 64 (lit< tt) (steps-format transitions) (λ count few h. (h, few)))))
+    (counted-format (bytes "firings=") 0 64 (lit< tt) (steps-format transitions) (λ count few h. h))))
 
 pub order-format : (transitions : ℕ) → Format (transitions ≤ 32) (orderCard transitions) orderReach 66
 order-format transitions =
     held-format toOrder fromOrder (λ v. refl)
     (pair-format (keyed-format (bytes "memory=") memory-format)
-    (counted-format (bytes "firings=") 0 64 (lit< tt) (fires-format transitions) (λ count few h. (h, few))))
+    (counted-format (bytes "firings=") 0 64 (lit< tt) (fires-format transitions) (λ count few h. h)))

@@ -1,5 +1,4 @@
 pub mod Card
-pub mod Check
-pub mod Read
+pub mod Ranges
 pub mod Same
-pub mod Write
+pub mod Text

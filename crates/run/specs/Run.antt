@@ -1,8 +1,9 @@
 -- Document 01, "Cards": the run card and the order card of a net with so many transitions, line by line.
-use Prim.Native.Nat.{ℕ, _+_}
+use Prim.Native.Nat.{ℕ, _+_, min}
 use mathlib.Core.Bool.{cond}
-use mathlib.Core.List.{List}
+use mathlib.Core.List.{List, map}
 use lib.ListN.{length, drop}
+use Rattle.laws.specs.Slots.{firstOf}
 use Rattle.reply.specs.declared.Refusal.the-variants.{Malformed}
 use Rattle.reply.specs.declared.Checked.the-variants.{Passed}
 use Rattle.text.specs.Key.{bytes, beginsWith}
@@ -91,3 +92,18 @@ fromOrder o = (o .memory, (o .count, o .fires))
 
 abbrev pub orderCard : ℕ → Form Order
 orderCard transitions = held toOrder fromOrder (orderLines transitions)
+
+-- ---- what counts of a value
+-- the firings of a run, and the fired transitions of an order
+unfoldable pub firingsOf : Run → List Firing
+firingsOf r = firstOf (min (r .count) 64) noFiring (r .firings)
+
+unfoldable pub firesOf : Order → List ℕ
+firesOf o = firstOf (min (o .count) 64) 0 (o .fires)
+
+-- the fired transitions of firings, and the waits before them
+unfoldable pub orderOf : List Firing → List ℕ
+orderOf fs = map (λ (f : Firing). f .fire) fs
+
+unfoldable pub waitsOf : List Firing → List ℕ
+waitsOf fs = map (λ (f : Firing). f .wait) fs

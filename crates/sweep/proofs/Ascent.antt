@@ -7,21 +7,21 @@ use lib.ListN.{length, set, length-set}
 use native.Mathlib.Nat.{le-refl, le-trans}
 use native.Mathlib.Numerals.{add-one}
 use native.Mathlib.Omega.{arith}
-use Rattle.laws.specs.Sum.{le-or-lt}
+use Rattle.laws.specs.Sums.{le-or-lt}
 use Rattle.timing.specs.Solve.{instantAt}
-use Rattle.timing.proofs.Pass.{Under}
+use Rattle.timing.specs.Timing.{Under}
 use Rattle.sweep.specs.Sweeps.{Follows, Forward}
 use Rattle.sweep.proofs.Raising.{raised-there, raised-kept, raised-up, raised-under}
 
 -- a sweep forward that stands at i, where the instant is `now`; the firings of the windows below `first` have not moved
-pub record Ascending (origin low : ℕ → ℕ) (from k : ℕ) (x₀ : List ℕ) (first to now i : ℕ) (x : List ℕ) : Type 0 where
+pub record Climbing (origin low : ℕ → ℕ) (from k : ℕ) (x₀ : List ℕ) (first to now i : ℕ) (x : List ℕ) : Type 0 where
   pub swept : Forward origin low from k x₀ to i x
   pub here : now ≡ instantAt x i
   pub few : first ≤ k
   pub same : (j : ℕ) → j < first → instantAt x (suc j) ≡ instantAt x₀ (suc j)
 
 pub forth-start : (origin low : ℕ → ℕ) (from k : ℕ) (x₀ : List ℕ) → from ≤ k → ((j : ℕ) → j < from → Follows origin low (instantAt x₀) j)
-    → ((j : ℕ) → j ≤ k → instantAt x₀ j ≤ 64 * 2 ^ 32) → Ascending origin low from k x₀ k 0 (instantAt x₀ from) from x₀
+    → ((j : ℕ) → j ≤ k → instantAt x₀ j ≤ 64 * 2 ^ 32) → Climbing origin low from k x₀ k 0 (instantAt x₀ from) from x₀
 forth-start origin low from k x₀ l f s =
     record {
       swept =
@@ -42,7 +42,7 @@ forth-start origin low from k x₀ l f s =
       same = λ j l. refl;
     }
 
-module _ {origin low : ℕ → ℕ} {from k : ℕ} {x₀ : List ℕ} {first to now i : ℕ} {x : List ℕ} (a : Ascending origin low from k x₀ first to now i x) where
+module _ {origin low : ℕ → ℕ} {from k : ℕ} {x₀ : List ℕ} {first to now i : ℕ} {x : List ℕ} (a : Climbing origin low from k x₀ first to now i x) where
   f : Forward origin low from k x₀ to i x
   f = a .swept
 
@@ -51,7 +51,7 @@ module _ {origin low : ℕ → ℕ} {from k : ℕ} {x₀ : List ℕ} {first to n
 
   module _ (l : i < k) (t : ℕ) (e : t ≡ max now (instantAt x (origin i) + low i)) where
     -- the firing after i is not before t
-    pub forth-passed : t ≤ instantAt x (i + 1) → Ascending origin low from k x₀ first to (instantAt x (i + 1)) (i + 1) x
+    pub forth-passed : t ≤ instantAt x (i + 1) → Climbing origin low from k x₀ first to (instantAt x (i + 1)) (i + 1) x
     forth-passed h =
         let next : t ≤ instantAt x (suc i) = rw (add-one i) at h in
         record {
@@ -129,7 +129,7 @@ module _ {origin low : ℕ → ℕ} {from k : ℕ} {x₀ : List ℕ} {first to n
           (omega (arith, a .here, f .small i (omega arith), f .small (origin i) (omega (arith, earlier i l)))) (λ n. omega arith) j in
           omega (arith, f .small j h)
 
-      pub forth-raised : (m : ℕ) → m ≡ min first i → Ascending origin low from k x₀ m (i + 1) t (i + 1) y
+      pub forth-raised : (m : ℕ) → m ≡ min first i → Climbing origin low from k x₀ m (i + 1) t (i + 1) y
       forth-raised m q =
           record {
             swept =

@@ -8,20 +8,20 @@ use lib.ListN.{length, set, length-set}
 use native.Mathlib.Nat.{le-refl, le-trans}
 use native.Mathlib.Numerals.{add-one}
 use native.Mathlib.Omega.{arith}
-use Rattle.laws.specs.Sum.{le-or-lt}
-use Rattle.timing.specs.Timing.{Upper}
+use Rattle.laws.specs.Sums.{le-or-lt}
+use Rattle.timing.specs.Timing.{Upper, Under}
 use Rattle.timing.specs.Solve.{instantAt}
-use Rattle.timing.proofs.Pass.{Under}
-use Rattle.sweep.specs.Sweeps.{asked, Reaches, Backward}
+use Rattle.sweep.specs.Sweeps.{asked, InTime, Backward}
 use Rattle.sweep.proofs.Raising.{raised-there, raised-kept, raised-up, raised-under, asked-mono}
 
 -- a sweep backward that stands at i: the windows from i on have had their turn, and those below `stop` are met
 pub record Descending (origin : ℕ → ℕ) (upper : ℕ → Upper) (top : ℕ) (x₀ : List ℕ) (from stop i : ℕ) (x : List ℕ) : Type 0 where
   pub swept : Backward origin upper top x₀ from i x
   pub stops : stop ≤ i
-  pub met : (j : ℕ) → j < stop → Reaches origin upper (instantAt x) j
+  pub met : (j : ℕ) → j < stop → InTime origin upper (instantAt x) j
 
-pub back-start : (origin : ℕ → ℕ) (upper : ℕ → Upper) (top bottom : ℕ) (x₀ : List ℕ) → bottom ≤ top → ((j : ℕ) → j < bottom → Reaches origin upper (instantAt x₀) j)
+pub back-start : (origin : ℕ → ℕ) (upper : ℕ → Upper) (top bottom : ℕ) (x₀ : List ℕ) → bottom ≤ top
+    → ((j : ℕ) → j < bottom → InTime origin upper (instantAt x₀) j)
     → Descending origin upper top x₀ top bottom top x₀
 back-start origin upper top bottom x₀ l m =
     record {
@@ -73,7 +73,7 @@ module _ {origin : ℕ → ℕ} {upper : ℕ → Upper} {top : ℕ} {x₀ : List
                     (λ c. b .reaches j c l)
                     (λ c.
                     let e : j ≡ i - 1 = omega arith in
-                    subst⁻¹ (Reaches origin upper (instantAt x)) e (rw (add-one (i - 1)) at m))
+                    subst⁻¹ (InTime origin upper (instantAt x)) e (rw (add-one (i - 1)) at m))
                     (le-or-lt i j);
                 under = b .under;
                 low = b .low;
@@ -116,20 +116,20 @@ module _ {origin : ℕ → ℕ} {upper : ℕ → Upper} {top : ℕ} {x₀ : List
         asked-now = rw (add-one (i - 1)) at asks
 
         -- what a window asks stays, unless its own firing rose
-        still : (j : ℕ) → (suc j ≡ o → ⊥) → Reaches origin upper (instantAt x) j → Reaches origin upper (instantAt y) j
+        still : (j : ℕ) → (suc j ≡ o → ⊥) → InTime origin upper (instantAt x) j → InTime origin upper (instantAt y) j
         still j n r = omega (arith, ap (asked (upper j)) (others (suc j) n), up (origin j))
 
-        reaches-more : (j : ℕ) → i - 1 ≤ j → j < top → Reaches origin upper (instantAt y) j
+        reaches-more : (j : ℕ) → i - 1 ≤ j → j < top → InTime origin upper (instantAt y) j
         reaches-more j n l =
             ⊎-elim
             (λ c. still j (λ e. omega (arith, before)) (b .reaches j c l))
             (λ c.
             let e : j ≡ i - 1 = omega arith in
-            subst⁻¹ (Reaches origin upper (instantAt y)) e
+            subst⁻¹ (InTime origin upper (instantAt y)) e
             (omega (arith, ap (asked (upper (i - 1))) (others (suc (i - 1)) (λ e. omega (arith, before))), asked-now, there)))
             (le-or-lt i j)
 
-        under-more : (S : ℕ → ℕ) → ((j : ℕ) → j < top → Reaches origin upper S j) → Under (instantAt x₀) S → Under (instantAt y) S
+        under-more : (S : ℕ → ℕ) → ((j : ℕ) → j < top → InTime origin upper S j) → Under (instantAt x₀) S → Under (instantAt y) S
         under-more S s u =
             let v = b .under S s u in
             raised-under x o t inside less S

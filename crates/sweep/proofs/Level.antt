@@ -5,10 +5,9 @@ use mathlib.Core.Path.{_≡_, subst⁻¹}
 use mathlib.Core.List.{List}
 use mathlib.Core.Logic.{⊎-elim}
 use native.Mathlib.Omega.{arith}
-use Rattle.laws.specs.Sum.{le-or-lt}
-use Rattle.timing.specs.Timing.{Upper, atMost, below, unbounded, Win, Within, Meets, Feasible}
+use Rattle.laws.specs.Sums.{le-or-lt}
+use Rattle.timing.specs.Timing.{Upper, atMost, below, unbounded, Win, Within, Meets, Feasible, Under}
 use Rattle.timing.specs.Solve.{instantAt}
-use Rattle.timing.proofs.Pass.{Under}
 use Rattle.sweep.specs.Sweeps.{Entered, Unmet}
 use Rattle.sweep.proofs.Raising.{asked-within}
 
@@ -39,7 +38,8 @@ module _ (W : ℕ → Win) (k : ℕ) (x : List ℕ) (e : Entered W k x) where
         (asked-within (W i .high) (instantAt x o) (instantAt x (suc i)) .0 (e .reaches i h)) (f .each i l .late))
         (λ h.
         let q : k ≡ suc i = omega arith in
-        subst⁻¹ (λ (n : ℕ). Within 1 (W i .high) (max (instantAt x o) (S o - (S n - instantAt x n))) (max (instantAt x (suc i)) (S (suc i) - (S n - instantAt x n)))) q
+        subst⁻¹ (λ (n : ℕ). Within 1 (W i .high) (max (instantAt x o) (S o - (S n - instantAt x n)))
+        (max (instantAt x (suc i)) (S (suc i) - (S n - instantAt x n)))) q
         (last-within (W i .high) (instantAt x o) (instantAt x (suc i)) (S o) (S (suc i)) (e .under S (f .each) (suc i)) (f .each i l .late)))
         (le-or-lt (suc (suc i)) k)
 

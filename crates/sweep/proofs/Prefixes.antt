@@ -1,28 +1,25 @@
 -- One window more: the new firing is put where order and its lower bound ask, which nothing that meets the windows is below; if its upper bound allows that,
 -- all windows are met. The windows taken one after the other give the least instants, or the first window that cannot be met with those before it.
-use Prim.Native.Nat.{ℕ, suc, _+_, _*_, _≤_, _<_, _^_, max}
+use Prim.Native.Nat.{ℕ, suc, _+_, _*_, _-_, _≤_, _<_, _^_, max}
 use mathlib.Core.Path.{_≡_, refl, sym, ap, _∙_, subst, subst⁻¹}
 use mathlib.Core.Bool.{Bool}
 use mathlib.Core.List.{List, []}
 use mathlib.Core.Logic.{⊎-elim}
-use lib.ListN.{length, set, take, replicate, length-set, length-replicate, List·getD-eq-default}
-use lib.Seq.{getD-set-same, getD-set-other, length-take-le, getD-take}
+use lib.ListN.{length, set, take, replicate, length-set, length-append, length-replicate, List·getD-eq-default}
+use lib.Seq.{getD-set-same, getD-set-other, length-take-le, getD-take, ext-getD}
 use native.Mathlib.Nat.{le-refl, le-trans, mul-le-mul-left}
 use native.Mathlib.Numerals.{add-one}
 use native.Mathlib.Omega.{arith}
-use borrow.Author.Tests.{ne-eqb}
-use Rattle.laws.specs.Slots.{getD-padded}
-use Rattle.laws.specs.Sum.{le-or-lt}
-use Rattle.timing.specs.Timing.{Win, Meets, Wellformed, capped}
-use Rattle.timing.specs.Solve.{instantAt}
+use Rattle.laws.specs.Slots.{padTo, getD-padded}
+use Rattle.laws.specs.Sums.{le-or-lt}
+use Rattle.timing.specs.Timing.{Win, Meets, Wellformed, capped, Under}
+use Rattle.timing.specs.Solve.{instantAt, metBy, failsAt, solvePrefixes}
 use Rattle.timing.specs.Claims.{LeastInstants, Judges}
-use Rattle.timing.proofs.Pass.{Under}
 use Rattle.timing.proofs.Feasible.{restrict, feasible-same}
 use Rattle.timing.proofs.Cap.{cap, capped-le}
-use Rattle.timing.proofs.Scheduled.{possible-least}
-use Rattle.sweep.specs.Arrays.{entry, uppers, Listed, verdictOf}
-use Rattle.timing.specs.Collect.{windowIn}
-use Rattle.sweep.specs.Sweeps.{asked, originOf, lowOf, highOf, Follows, Reaches, Solved, Entered, Unmet}
+use Rattle.timing.proofs.Solved.{prefixes-right, judge-unique, possible-least}
+use Rattle.sweep.specs.Arrays.{entry, uppers, Listed, earliestBy, windowIn}
+use Rattle.sweep.specs.Sweeps.{asked, originOf, lowOf, highOf, Follows, InTime, Solved, Entered, Unmet}
 use Rattle.sweep.proofs.Raising.{each-index}
 use Rattle.sweep.proofs.Rounds.{meets-parts, meets-follows, meets-reaches}
 
@@ -36,7 +33,7 @@ module _ (W : ℕ → Win) where
       }
 
   -- the last upper bound is met too
-  pub entered-solved : (i : ℕ) (x : List ℕ) → Entered W (suc i) x → Reaches (originOf W) (highOf W) (instantAt x) i → Solved W (suc i) x
+  pub entered-solved : (i : ℕ) (x : List ℕ) → Entered W (suc i) x → InTime (originOf W) (highOf W) (instantAt x) i → Solved W (suc i) x
   entered-solved i x e r =
       record {
         size = e .size;
@@ -47,7 +44,7 @@ module _ (W : ℕ → Win) where
                   meets-parts W (instantAt x) j (e .follows j l)
                   (⊎-elim
                   (λ h. e .reaches j h)
-                  (λ h. let q : j ≡ i = omega arith in subst⁻¹ (Reaches (originOf W) (highOf W) (instantAt x)) q r)
+                  (λ h. let q : j ≡ i = omega arith in subst⁻¹ (InTime (originOf W) (highOf W) (instantAt x)) q r)
                   (le-or-lt (suc (suc j)) (suc i)));
             };
         under = e .under;
@@ -92,7 +89,7 @@ module _ (W : ℕ → Win) where
           (omega (arith, there, before i (le-refl i)), omega (arith, there, before (W i .origin) (wf i (le-refl _)))))
           (le-or-lt (suc j) i)
 
-      reaches : (j : ℕ) → suc j < suc i → Reaches (originOf W) (highOf W) (instantAt y) j
+      reaches : (j : ℕ) → suc j < suc i → InTime (originOf W) (highOf W) (instantAt y) j
       reaches j l =
           let h : j < i = omega arith in
           omega (
@@ -127,22 +124,19 @@ module _ (W : ℕ → Win) where
 
 -- ---- the same of windows in lists, as the code has it
 
-pub listed-first : {origin low : List ℕ} {closed : List Bool} {high : List ℕ} {n m : ℕ} → Listed origin low closed high n → m ≤ n → Listed origin low closed high m
+pub listed-first : {origin low : List ℕ} {bounded : List Bool} {high : List ℕ} {n m : ℕ} → Listed origin low bounded high n → m ≤ n
+    → Listed origin low bounded high m
 listed-first p l =
     record {
       few = le-trans l (p .few);
-      origins = le-trans l (p .origins);
-      lows = le-trans l (p .lows);
-      marks = le-trans l (p .marks);
-      highs = le-trans l (p .highs);
       earlier = λ i h. p .earlier i (le-trans h l);
       small = λ i h. p .small i (le-trans h l);
     }
 
-module _ {origin low : List ℕ} {closed : List Bool} {high : List ℕ} {i : ℕ} {x : List ℕ} (p : Listed origin low closed high (i + 1))
-    (s : Solved (windowIn origin low closed high) i x) where
+module _ {origin low : List ℕ} {bounded : List Bool} {high : List ℕ} {i : ℕ} {x : List ℕ} (p : Listed origin low bounded high (i + 1))
+    (s : Solved (windowIn origin low bounded high) i x) where
   abbrev W : ℕ → Win
-  W = windowIn origin low closed high
+  W = windowIn origin low bounded high
 
   wf : Wellformed W (suc i)
   wf j l = p .earlier j (omega arith)
@@ -166,13 +160,14 @@ module _ {origin low : List ℕ} {closed : List Bool} {high : List ℕ} {i : ℕ
     pub enter-put : Entered W (i + 1) (set x (i + 1) t)
     enter-put = rw (stored, add-one i) (entered W i x wf lows s few)
 
-    pub enter-met : (needed : ℕ) → needed ≡ asked (uppers closed high i) t → needed ≤ instantAt (set x (i + 1) t) (entry origin i) → Solved W (i + 1) (set x (i + 1) t)
+    pub enter-met : (needed : ℕ) → needed ≡ asked (uppers bounded high i) t → needed ≤ instantAt (set x (i + 1) t) (entry origin i)
+        → Solved W (i + 1) (set x (i + 1) t)
     enter-met needed q h =
         rw (stored, add-one i)
         (enter-solved W i x wf lows s few
         (omega (
           arith,
-          ap (asked (uppers closed high i)) e,
+          ap (asked (uppers bounded high i)) e,
           getD-set-other x (i + 1) (entry origin i) t 0 (λ r. omega (arith, wf i (le-refl _))),
         )))
 
@@ -194,14 +189,43 @@ module _ (W : ℕ → Win) (n : ℕ) (few : n ≤ 64) (wf : Wellformed W n) (i :
             (le-or-lt j n);
       }
 
-  pub judges-met : n ≤ i → i ≤ n → Judges 1 W n (verdictOf n (record { failed = 0; instants = x }))
+  judges-met : n ≤ i → i ≤ n → Judges 1 W n (metBy (take (suc n) x))
   judges-met l h = all-met (omega arith)
 
-  pub judges-fails : (z : List ℕ) → i < n → Unmet W (i + 1) → Judges 1 W n (verdictOf n (record { failed = i + 1; instants = z }))
-  judges-fails z l u =
-      rw (ne-eqb (i + 1) 0 (λ e. omega arith))
-      (record {
+  judges-fails : i < n → Unmet W (i + 1) → Judges 1 W n (failsAt (i + 1))
+  judges-fails l u =
+      record {
         reached = omega arith;
         fails-at = u;
         met = λ j h. possible-least W j (λ m b. wf m (omega arith)) (instantAt x, restrict j (omega arith) (s .feasible));
-      })
+      }
+
+  -- past the last firing there is nothing
+  padded : n ≤ i → i ≤ n → x ≡ padTo 65 0 (take (suc n) x)
+  padded l h =
+      let t = judges-met l h in
+      let p : (j : ℕ) → instantAt (padTo 65 0 (take (suc n) x)) j
+      ≡ instantAt (take (suc n) x) j = getD-padded (take (suc n) x) (65 - length (take (suc n) x)) 0 in
+      let u = s .under (instantAt (take (suc n) x)) (λ j b. t .feasible .each j (omega arith)) in
+      let size : length (padTo 65 0 (take (suc n) x)) ≡ 65 = omega (
+        arith,
+        length-append (take (suc n) x) (replicate (65 - length (take (suc n) x)) 0),
+        length-replicate {A = ℕ}
+            (65 - length (take (suc n) x)) 0,
+        t .size,
+      ) in
+      ext-getD 0 x (padTo 65 0 (take (suc n) x)) (s .size ∙ sym size)
+      (λ j b.
+      ⊎-elim
+      (λ c. sym (p j ∙ getD-take (suc n) x j 0 (omega arith)))
+      (λ c. omega (arith, p j, u j, List·getD-eq-default (take (suc n) x) 0 {n = j} (omega (arith, t .size))))
+      (le-or-lt j n))
+
+  pub answer-met : n ≤ i → i ≤ n → record { failed = 0; instants = x } ≡ earliestBy (solvePrefixes 1 W n)
+  answer-met l h =
+      let e : metBy (take (suc n) x) ≡ solvePrefixes 1 W n = judge-unique 1 W n (metBy (take (suc n) x)) (solvePrefixes 1 W n) (judges-met l h)
+      (prefixes-right 1 W n wf) in
+      ap (λ (y : List ℕ). record { failed = 0; instants = y }) (padded l h) ∙ ap earliestBy e
+
+  pub answer-fails : i < n → Unmet W (i + 1) → record { failed = i + 1; instants = replicate 65 0 } ≡ earliestBy (solvePrefixes 1 W n)
+  answer-fails l u = ap earliestBy (judge-unique 1 W n (failsAt (i + 1)) (solvePrefixes 1 W n) (judges-fails l u) (prefixes-right 1 W n wf))

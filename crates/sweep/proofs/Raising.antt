@@ -8,10 +8,9 @@ use lib.ListN.{length, set}
 use lib.Seq.{getD-set-same, getD-set-other}
 use native.Mathlib.Decide.{ℕ-discrete}
 use native.Mathlib.Omega.{arith}
-use Rattle.timing.specs.Timing.{Upper, atMost, below, unbounded, Within, Closed}
+use Rattle.timing.specs.Timing.{Upper, atMost, below, unbounded, Within, Closed, Under}
 use Rattle.timing.specs.Solve.{instantAt}
-use Rattle.timing.specs.Collect.{upperIn}
-use Rattle.timing.proofs.Pass.{Under}
+use Rattle.sweep.specs.Arrays.{upperIn}
 use Rattle.sweep.specs.Sweeps.{asked}
 
 -- what holds of each index but `at`, and of `at`, holds of each
@@ -49,14 +48,14 @@ asked-le (atMost b) c t = omega arith
 asked-le (below b) c t = absurd c
 asked-le unbounded c t = omega arith
 
-module _ (closed : Bool) (t high : ℕ) where
-  pub asks-none : closed ≡ false → 0 ≡ asked (upperIn closed high) t
+module _ (bounded : Bool) (t high : ℕ) where
+  pub asks-none : bounded ≡ false → 0 ≡ asked (upperIn bounded high) t
   asks-none e = rw e
 
-  pub asks-past : closed ≡ true → t - high ≡ asked (upperIn closed high) t
+  pub asks-past : bounded ≡ true → t - high ≡ asked (upperIn bounded high) t
   asks-past e = rw e
 
 -- no upper bound of the lists is an open one
-pub upper-closed : (closed : Bool) (high : ℕ) → Closed (upperIn closed high)
+pub upper-closed : (bounded : Bool) (high : ℕ) → Closed (upperIn bounded high)
 upper-closed true high = tt
 upper-closed false high = tt

@@ -9,26 +9,26 @@ use native.Mathlib.Nat.{le-trans, le-refl}
 use native.Mathlib.Decide.{le-ind}
 use native.Mathlib.Omega.{arith}
 use Rattle.laws.specs.Each.{Each, each-map}
-use Rattle.laws.specs.Sum.{le-or-lt}
-use Rattle.timing.specs.Timing.{AllClosed, Win, Meets, Feasible, Wellformed}
+use Rattle.laws.specs.Sums.{le-or-lt}
+use Rattle.timing.specs.Timing.{AllClosed, Win, Meets, Feasible, Wellformed, Under}
 use Rattle.timing.specs.Solve.{Edge, instantAt, edges}
-use Rattle.timing.proofs.Pass.{Sat, Fits, Under}
+use Rattle.timing.proofs.Pass.{Sat, Fits}
 use Rattle.timing.proofs.Climb.{Start, Near, Step, near-start, nearer, exhausted}
 use Rattle.timing.proofs.Edges.{edges-fit, serves-of, sat-of, meets-of}
-use Rattle.sweep.specs.Sweeps.{asked, originOf, lowOf, highOf, Follows, Reaches, Backward, Forward, Solved, Entered, Unmet}
+use Rattle.sweep.specs.Sweeps.{asked, originOf, lowOf, highOf, Follows, InTime, Backward, Forward, Solved, Entered, Unmet}
 use Rattle.sweep.proofs.Raising.{asked-within, asked-mono, asked-le}
 use Rattle.sweep.proofs.Level.{above-unmet, started-unmet}
 
 -- ---- a window, by what a sweep forward and a sweep backward leave of it
 
 module _ (W : ℕ → Win) (S : ℕ → ℕ) (i : ℕ) where
-  pub meets-parts : Follows (originOf W) (lowOf W) S i → Reaches (originOf W) (highOf W) S i → Meets 1 S i (W i)
+  pub meets-parts : Follows (originOf W) (lowOf W) S i → InTime (originOf W) (highOf W) S i → Meets 1 S i (W i)
   meets-parts f r = record { ordered = f .0; early = omega arith; late = asked-within (W i .high) (S (W i .origin)) (S (suc i)) .0 r }
 
   pub meets-follows : Meets 1 S i (W i) → Follows (originOf W) (lowOf W) S i
   meets-follows m = (m .ordered, omega (arith, m .early))
 
-  pub meets-reaches : Meets 1 S i (W i) → Reaches (originOf W) (highOf W) S i
+  pub meets-reaches : Meets 1 S i (W i) → InTime (originOf W) (highOf W) S i
   meets-reaches m = asked-within (W i .high) (S (W i .origin)) (S (suc i)) .1 (m .late)
 
 -- instants in order are at most the last
@@ -63,8 +63,8 @@ pub record Settling (W : ℕ → Win) (k : ℕ) (x₀ x : List ℕ) (bottom top 
   pub starts : instantAt x 0 ≡ 0
   pub level : instantAt x k ≡ instantAt x₀ k
   pub follows : (j : ℕ) → j < k → Follows (originOf W) (lowOf W) (instantAt x) j
-  pub met : (j : ℕ) → j < bottom → Reaches (originOf W) (highOf W) (instantAt x) j
-  pub reaches : (j : ℕ) → top ≤ j → j < k → Reaches (originOf W) (highOf W) (instantAt x) j
+  pub met : (j : ℕ) → j < bottom → InTime (originOf W) (highOf W) (instantAt x) j
+  pub reaches : (j : ℕ) → top ≤ j → j < k → InTime (originOf W) (highOf W) (instantAt x) j
   pub under : (S : ℕ → ℕ) → ((j : ℕ) → j < k → Meets 1 S j (W j)) → Under (instantAt x) S
   pub near : (S : ℕ → ℕ) → Feasible 1 W k S → (round ≤ 64) × Near 64 (edges 1 W k []) (64 - round) x
 
@@ -101,7 +101,7 @@ module _ {W : ℕ → Win} {k : ℕ} where
     back-under : (S : ℕ → ℕ) → ((j : ℕ) → j < k → Meets 1 S j (W j)) → Under (instantAt z) S
     back-under S m = b .under S (λ j l. meets-reaches W S j (m j (omega (arith, s .within)))) (s .under S m)
 
-    back-reaches : (j : ℕ) → j < k → Reaches (originOf W) (highOf W) (instantAt z) j
+    back-reaches : (j : ℕ) → j < k → InTime (originOf W) (highOf W) (instantAt z) j
     back-reaches j l =
         ⊎-elim
         (λ h. b .reaches j (omega arith) h)
@@ -148,7 +148,8 @@ module _ {W : ℕ → Win} {k : ℕ} where
     pub forth-small : (j : ℕ) → j ≤ k → instantAt z j ≤ 64 * 2 ^ 32
     forth-small j h =
         let most = 64 * 2 ^ 32 in
-        let all : (i : ℕ) → i ≤ k → instantAt x i ≤ most = λ i l. omega (arith, rising k (instantAt x) (λ n m. s .follows n m .0) i l, s .level, s .entered .small) in
+        let all : (i : ℕ) → i ≤ k → instantAt x i ≤ most = λ i l. omega
+        (arith, rising k (instantAt x) (λ n m. s .follows n m .0) i l, s .level, s .entered .small) in
         let t =
         b .under (λ n. max (instantAt x n) most)
         (λ i l.
@@ -160,7 +161,7 @@ module _ {W : ℕ → Win} {k : ℕ} where
       round-under : (S : ℕ → ℕ) → ((j : ℕ) → j < k → Meets 1 S j (W j)) → Under (instantAt y) S
       round-under S m = f .under S (λ j l. meets-follows W S j (m j l)) (back-under S m)
 
-      round-reaches : (j : ℕ) → to ≤ j → j < k → Reaches (originOf W) (highOf W) (instantAt y) j
+      round-reaches : (j : ℕ) → to ≤ j → j < k → InTime (originOf W) (highOf W) (instantAt y) j
       round-reaches j h l = omega (arith, ap (asked (W j .high)) (f .kept (suc j) (inl (omega arith))), back-reaches j l, f .up (W j .origin))
 
       round-size : length y ≡ 65
@@ -195,7 +196,8 @@ module _ {W : ℕ → Win} {k : ℕ} where
             omega (arith, moved, b .under (instantAt x) (λ j l. meets-reaches W (instantAt x) j (m j (omega (arith, s .within)))) (λ j. le-refl _) from)
 
         fits : Each (Fits 64) (edges 1 W k [])
-        fits = each-map (λ a t. record { from-le = le-trans (t .from-le) (s .few); to-le = le-trans (t .to-le) (s .few) }) (edges 1 W k []) (edges-fit 1 W k (s .earlier))
+        fits = each-map (λ a t. record { from-le = le-trans (t .from-le) (s .few); to-le = le-trans (t .to-le) (s .few) }) (edges 1 W k [])
+            (edges-fit 1 W k (s .earlier))
 
         begun : Start 64 (edges 1 W k []) x
         begun = record { size = s .size; under = λ S a. s .under S (meets-of 1 W S k a) }
@@ -217,7 +219,13 @@ module _ {W : ℕ → Win} {k : ℕ} where
                     early = omega (arith, b .up (W i .origin), f .up (W i .origin));
                     late =
                         asked-within (W i .high) (instantAt y (W i .origin)) (instantAt x (suc i)) .0
-                        (omega (arith, asked-mono (W i .high) (instantAt x (suc i)) (instantAt z (suc i)) (b .up (suc i)), back-reaches i l, f .up (W i .origin)));
+                        (omega (
+                          arith,
+                          asked-mono (W i .high) (instantAt x (suc i)) (instantAt z (suc i)) (b .up (suc i)),
+                          back-reaches i l,
+                          f .up
+                              (W i .origin),
+                        ));
                   });
               under = λ S a u.
                   let m = meets-of 1 W S k a in
@@ -229,8 +237,13 @@ module _ {W : ℕ → Win} {k : ℕ} where
             let es = edges 1 W k [] in
             let n = s .near S p in
             ⊎-elim
-            (λ h. (h, nearer 64 es fits (64 - suc round) x y begun (near-le 64 es (64 - round) (suc (64 - suc round)) x (one-less round) (n .1)) unsettled step))
-            (λ h. absurd (exhausted 64 es fits x begun (near-le 64 es (64 - round) 0 x (none-left round h) (n .1)) unsettled S (p .starts) (sat-of 1 W S k (p .each))))
+            (λ h. (
+              h,
+              nearer 64 es fits (64 - suc round) x y begun (near-le 64 es (64 - round) (suc (64 - suc round)) x (one-less round) (n .1))
+                  unsettled step,
+            ))
+            (λ h. absurd (exhausted 64 es fits x begun (near-le 64 es (64 - round) 0 x (none-left round h) (n .1)) unsettled S (p .starts)
+            (sat-of 1 W S k (p .each))))
             (le-or-lt (suc round) 64)
 
         module _ {first : ℕ} (inside : first ≤ k) (same : (j : ℕ) → j < first → instantAt y (suc j) ≡ instantAt z (suc j)) where

@@ -1,30 +1,45 @@
--- What is asked of windows held in four lists, and the verdict that a record of instants stands for.
-use Prim.Native.Nat.{ℕ, suc, _≤_, _<_, _^_}
+-- Windows held in four lists, what is asked of them, and the answer that a verdict is.
+use Prim.Native.Nat.{ℕ, _≤_, _<_, _^_, min}
 use mathlib.Core.Bool.{Bool, false, cond}
 use mathlib.Core.List.{List}
-use lib.Dec.{eqb}
-use lib.ListN.{length, getD, take}
-use Rattle.timing.specs.Timing.{Upper, Wellformed}
-use Rattle.timing.specs.Collect.{upperIn, windowIn}
-use Rattle.timing.specs.Solve.{Verdict, metBy, failsAt}
+use lib.ListN.{getD, replicate}
+use Rattle.laws.specs.Slots.{padTo}
+use Rattle.timing.specs.declared.Window.{Window}
+use Rattle.timing.specs.Timing.{Upper, atMost, unbounded, Win, Wellformed}
+use Rattle.timing.specs.Windows.{noWindow, upperOf}
+use Rattle.timing.specs.Solve.{Verdict, metBy, failsAt, solvePrefixes}
 use Rattle.sweep.specs.declared.Earliest.{Earliest}
 
--- what the lists hold at i
+-- the instants that meet all windows, or how many windows cannot be met together; zeros in all other slots
+abbrev pub earliestBy : Verdict → Earliest
+earliestBy (metBy x) = record { failed = 0; instants = padTo 65 0 x }
+earliestBy (failsAt k) = record { failed = k; instants = replicate 65 0 }
+
+-- window i of windows that anyone may hand over: the origin counts as far as it is an earlier firing
+abbrev pub clippedAt : List Window → ℕ → Win
+clippedAt ws i =
+    let w = getD ws i noWindow in
+    record { origin = min (w .origin) i; low = w .interval .earliest; high = upperOf (w .interval .latest) }
+
+-- at most 64 windows count, and each is measured from an earlier firing
+unfoldable pub earliestOf : List Window → ℕ → Earliest
+earliestOf ws count = earliestBy (solvePrefixes 1 (clippedAt ws) (min count 64))
+
+-- ---- four lists
 abbrev pub entry : List ℕ → ℕ → ℕ
 entry l i = getD l i 0
 
+abbrev pub upperIn : Bool → ℕ → Upper
+upperIn bounded high = cond bounded (atMost high) unbounded
+
+abbrev pub windowIn : List ℕ → List ℕ → List Bool → List ℕ → ℕ → Win
+windowIn origin low bounded high i = record { origin = getD origin i 0; low = getD low i 0; high = upperIn (getD bounded i false) (getD high i 0) }
+
 abbrev pub uppers : List Bool → List ℕ → ℕ → Upper
-uppers closed high i = upperIn (getD closed i false) (getD high i 0)
+uppers bounded high i = upperIn (getD bounded i false) (getD high i 0)
 
 -- n windows, of at most 64, each measured from an earlier firing, with lower bounds below 2 ^ 32
-pub record Listed (origin low : List ℕ) (closed : List Bool) (high : List ℕ) (n : ℕ) : Type 0 where
+pub record Listed (origin low : List ℕ) (bounded : List Bool) (high : List ℕ) (n : ℕ) : Type 0 where
   pub few : n ≤ 64
-  pub origins : n ≤ length origin
-  pub lows : n ≤ length low
-  pub marks : n ≤ length closed
-  pub highs : n ≤ length high
-  pub earlier : Wellformed (windowIn origin low closed high) n
+  pub earlier : Wellformed (windowIn origin low bounded high) n
   pub small : (i : ℕ) → i < n → getD low i 0 < 2 ^ 32
-
-abbrev pub verdictOf : ℕ → Earliest → Verdict
-verdictOf n r = cond (eqb (r .failed) 0) (metBy (take (suc n) (r .instants))) (failsAt (r .failed))

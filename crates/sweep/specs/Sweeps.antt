@@ -6,9 +6,8 @@ use mathlib.Core.Path.{_≡_}
 use mathlib.Core.List.{List}
 use mathlib.Core.Logic.{_⊎_}
 use lib.ListN.{length}
-use Rattle.timing.specs.Timing.{Upper, atMost, below, unbounded, Win, Meets, Feasible}
+use Rattle.timing.specs.Timing.{Upper, atMost, below, unbounded, Win, Meets, Feasible, Under}
 use Rattle.timing.specs.Solve.{instantAt}
-use Rattle.timing.proofs.Pass.{Under}
 
 -- the least instant of the origin with which a firing at t is within the bound
 abbrev pub asked : Upper → ℕ → ℕ
@@ -31,16 +30,16 @@ abbrev pub Follows : (ℕ → ℕ) → (ℕ → ℕ) → (ℕ → ℕ) → ℕ �
 Follows origin low S j = (S j ≤ S (suc j)) × (S (origin j) + low j ≤ S (suc j))
 
 -- the firing after j is not past its upper bound
-abbrev pub Reaches : (ℕ → ℕ) → (ℕ → Upper) → (ℕ → ℕ) → ℕ → Type 0
-Reaches origin upper S j = asked (upper j) (S (suc j)) ≤ S (origin j)
+abbrev pub InTime : (ℕ → ℕ) → (ℕ → Upper) → (ℕ → ℕ) → ℕ → Type 0
+InTime origin upper S j = asked (upper j) (S (suc j)) ≤ S (origin j)
 
 -- x is what x₀ became when the firings top, .., i + 1 raised their origins; `from` is the lowest index that rose, and top where none did
 pub record Backward (origin : ℕ → ℕ) (upper : ℕ → Upper) (top : ℕ) (x₀ : List ℕ) (from i : ℕ) (x : List ℕ) : Type 0 where
   pub within : i ≤ top
   pub size : length x ≡ length x₀
   pub up : Under (instantAt x₀) (instantAt x)
-  pub reaches : (j : ℕ) → i ≤ j → j < top → Reaches origin upper (instantAt x) j
-  pub under : (S : ℕ → ℕ) → ((j : ℕ) → j < top → Reaches origin upper S j) → Under (instantAt x₀) S → Under (instantAt x) S
+  pub reaches : (j : ℕ) → i ≤ j → j < top → InTime origin upper (instantAt x) j
+  pub under : (S : ℕ → ℕ) → ((j : ℕ) → j < top → InTime origin upper S j) → Under (instantAt x₀) S → Under (instantAt x) S
   pub low : from ≤ top
   pub kept : (j : ℕ) → (j < from) ⊎ (top ≤ j) → instantAt x j ≡ instantAt x₀ j
   pub rose : from < top → instantAt x₀ from < instantAt x from
@@ -70,7 +69,7 @@ pub record Entered (W : ℕ → Win) (k : ℕ) (x : List ℕ) : Type 0 where
   pub size : length x ≡ 65
   pub starts : instantAt x 0 ≡ 0
   pub follows : (j : ℕ) → j < k → Follows (originOf W) (lowOf W) (instantAt x) j
-  pub reaches : (j : ℕ) → suc j < k → Reaches (originOf W) (highOf W) (instantAt x) j
+  pub reaches : (j : ℕ) → suc j < k → InTime (originOf W) (highOf W) (instantAt x) j
   pub under : (S : ℕ → ℕ) → ((j : ℕ) → j < k → Meets 1 S j (W j)) → Under (instantAt x) S
   pub small : instantAt x k ≤ 64 * 2 ^ 32
 

@@ -1,7 +1,8 @@
 -- How many digits a number has: the one width that is enough for it while no smaller one is. So a number from 10 on has the digits of its tenth
 -- with one more behind them, which is what is left of it.
 use Prim.Native.Nat.{ℕ, zero, suc, _+_, _-_, _*_, _/_, _%_, _^_, _≤_, _<_}
-use native.Mathlib.Nat.{pow-suc, pow-le-pow-right, one-le-pow, mul-comm, div-one, div-div-eq-div-mul, div-lt-iff-lt-mul, le-div-iff-mul-le, mod-lt, mod-eq-of-lt, le-antisymm}
+use native.Mathlib.Nat.{pow-suc, pow-le-pow-right, one-le-pow, mul-comm, le-antisymm}
+use native.Mathlib.Nat.{div-one, div-div-eq-div-mul, div-lt-iff-lt-mul, le-div-iff-mul-le, mod-lt, mod-eq-of-lt}
 use native.Mathlib.Omega.{arith}
 use mathlib.Core.Bool.{Bool, true, false, cond}
 use mathlib.Core.Logic.{_⊎_, inl, inr}
@@ -64,7 +65,9 @@ width-right zero n h = record { enough = h; one = omega arith; least = inl refl 
 width-right (suc k) n h = go (width-right k n) (leb (10 ^ suc k) n) refl
   where
     go : (n < 10 ^ suc k → Width n (width k n)) → (t : Bool) → leb (10 ^ suc k) n ≡ t → Width n (cond t (suc (suc k)) (width k n))
-    go w true e = record { enough = h; one = omega arith; least = let one-less : suc (suc k) - 1 ≡ suc k = omega arith in inr (rw one-less (leb-true (10 ^ suc k) n e)) }
+    go w true e =
+        let one-less : suc (suc k) - 1 ≡ suc k = omega arith in
+        record { enough = h; one = omega arith; least = inr (rw one-less (leb-true (10 ^ suc k) n e)) }
     go w false e = w (leb-false (10 ^ suc k) n e)
 
 pub decimal-width : (n : ℕ) → length (decimal n) ≡ width 19 n
@@ -121,6 +124,7 @@ width-last n w h a =
         let p : 10 ^ w ≡ 10 ^ (w - 1) * 10 = ap (λ (k : ℕ). 10 ^ k) e ∙ pow-suc 10 (w - 1) in
         rw p (le-div-iff-mul-le {k = 10} (lit< tt) .0 l)
 
+-- one digit, one digit more than the tenth, and two digits
 pub decimal-one : (n : ℕ) → n < 10 → decimal n ≡ (48 + n) ∷ []
 unfolding decimal digits
 decimal-one n h =
@@ -134,3 +138,6 @@ decimal-last n h l =
     let w = width 19 (n / 10) in
     let more = width-last n w h (width-right 19 (n / 10) (omega arith)) in
     rw (width-unique n (width 19 n) (suc w) (width-right 19 n l) more) (digits-last w n (more .enough))
+
+pub decimal-two : (n : ℕ) → 10 ≤ n → n < 100 → decimal n ≡ (48 + n / 10) ∷ (48 + n % 10) ∷ []
+decimal-two n h l = decimal-last n h (omega arith) ∙ rw (decimal-one (n / 10) (omega arith)) refl

@@ -9,7 +9,7 @@ use lib.ListN.{length, take, drop, length-drop}
 use lib.Seq.{drop-drop}
 use lib.Dec.{eqb}
 use borrow.Author.Tests.{eqb-true, eq-eqb}
-use Rattle.laws.specs.Parts.{drop-take}
+use Rattle.laws.specs.Writing.{drop-take}
 use Rattle.text.specs.Key.{beginsWith}
 
 pub begins-text : (key rest : List ℕ) → beginsWith key (key ++ rest) ≡ true

@@ -12,12 +12,12 @@ use lib.Seq.{take-all, drop-drop}
 use lib.Arith.{digits-div, digits-mod}
 use lib.Dec.{leb, eqb, lit<, lit≤}
 use borrow.Author.Tests.{leb-true, leb-false, eqb-true, eqb-false, not-true, le-leb, lt-leb, eq-eqb, ne-eqb}
-use Rattle.laws.specs.Parts.{drop-take, drop-behind}
+use Rattle.laws.specs.Writing.{drop-take, drop-behind}
 use Rattle.text.specs.declared.NumberRead.{NumberRead}
 use Rattle.text.specs.declared.NumberRead.the-variants.{Value, NoNumber}
 use Rattle.text.specs.Key.{beginsWith}
 use Rattle.text.proofs.KeyLaws.{begins-text, begins-split, begins-take}
-use Rattle.text.specs.Number.{isDigit, digitsOf, valueOf, wellFormed, numberOf, numberAt, separator, closed, fieldAt}
+use Rattle.text.specs.Number.{isDigit, digitsOf, valueOf, wellFormed, readDigits, numberAt, separator, closed, fieldAt}
 use Rattle.text.specs.Decimal.{digits, width, decimal, field}
 use Rattle.text.proofs.DecimalLaws.{Width, width-least, width-unique, width-right, decimal-width, length-decimal-small, power-positive}
 
@@ -67,7 +67,8 @@ unfolding digitsOf
 digits-bytes [] = refl
 digits-bytes (b ∷ s) = go (digits-bytes s) (isDigit b) refl
   where
-    go : s ≡ map (λ d. 48 + d) (digitsOf s) ++ drop (length (digitsOf s)) s → (t : Bool) → isDigit b ≡ t → b ∷ s ≡ map (λ d. 48 + d) (cond t ((b - 48) ∷ digitsOf s) []) ++ drop (length (cond t ((b - 48) ∷ digitsOf s) [])) (b ∷ s)
+    go : s ≡ map (λ d. 48 + d) (digitsOf s) ++ drop (length (digitsOf s)) s → (t : Bool) → isDigit b ≡ t
+        → b ∷ s ≡ map (λ d. 48 + d) (cond t ((b - 48) ∷ digitsOf s) []) ++ drop (length (cond t ((b - 48) ∷ digitsOf s) [])) (b ∷ s)
     go h true e = let same : b ≡ 48 + (b - 48) = omega (arith, digit-range b e) in cc
     go h false e = refl
 
@@ -135,13 +136,14 @@ pub zero-form : (ds : List ℕ) → 2 ≤ length ds → getD ds 0 0 ≡ 0 → we
 zero-form ds h z = rw (ne-eqb (length ds) 1 (λ e. omega arith), z) (and-false (leb 1 (length ds) && leb (length ds) 9))
 
 -- ---- a number at a position
-pub numberOf-right : (ds : List ℕ) (at : ℕ) → wellFormed ds ≡ true → numberOf ds at ≡ Value (valueOf 0 ds) (at + length ds)
+pub numberOf-right : (ds : List ℕ) (at : ℕ) → wellFormed ds ≡ true → readDigits ds at ≡ Value (valueOf 0 ds) (at + length ds)
 numberOf-right ds at e = ap (λ (t : Bool). cond t (Value (valueOf 0 ds) (at + length ds)) NoNumber) e
 
-pub numberOf-wrong : (ds : List ℕ) (at : ℕ) → wellFormed ds ≡ false → numberOf ds at ≡ NoNumber
+pub numberOf-wrong : (ds : List ℕ) (at : ℕ) → wellFormed ds ≡ false → readDigits ds at ≡ NoNumber
 numberOf-wrong ds at e = ap (λ (t : Bool). cond t (Value (valueOf 0 ds) (at + length ds)) NoNumber) e
 
-pub number-text : (n at c : ℕ) (s rest : List ℕ) → n < 10 ^ 9 → isDigit c ≡ false → drop at s ≡ decimal n ++ c ∷ rest → numberAt s at ≡ Value n (at + length (decimal n))
+pub number-text : (n at c : ℕ) (s rest : List ℕ) → n < 10 ^ 9 → isDigit c ≡ false → drop at s ≡ decimal n ++ c ∷ rest
+    → numberAt s at ≡ Value n (at + length (decimal n))
 unfolding decimal
 number-text n at c s rest h stop e =
     let w : Width n (width 19 n) = width-right 19 n (omega arith) in
@@ -190,7 +192,8 @@ separator-stops false = refl
 pub length-field : (n : ℕ) (last : Bool) → length (field n last) ≡ length (decimal n) + 1
 length-field n last = length-append (decimal n) (separator last ∷ [])
 
-pub field-text : (n at : ℕ) (last : Bool) (s rest : List ℕ) → n < 10 ^ 9 → drop at s ≡ field n last ++ rest → fieldAt s at last ≡ Value n (at + length (field n last))
+pub field-text : (n at : ℕ) (last : Bool) (s rest : List ℕ) → n < 10 ^ 9 → drop at s ≡ field n last ++ rest
+    → fieldAt s at last ≡ Value n (at + length (field n last))
 unfolding fieldAt
 field-text n at last s rest h e =
     let parts : drop at s ≡ decimal n ++ (separator last ∷ rest) = e ∙ append-assoc (decimal n) (separator last ∷ []) rest in
@@ -207,7 +210,8 @@ pub record FieldThere (s : List ℕ) (at : ℕ) (last : Bool) (n next : ℕ) : T
   pub small : n < 10 ^ 9
 
 module _ (n at next : ℕ) (last : Bool) (s : List ℕ) where
-  close-there : (v m : ℕ) → NumberThere s at v m → (t : Bool) → beginsWith (separator last ∷ []) (drop m s) ≡ t → cond t (Value v (m + 1)) NoNumber ≡ Value n next → FieldThere s at last n next
+  close-there : (v m : ℕ) → NumberThere s at v m → (t : Bool) → beginsWith (separator last ∷ []) (drop m s) ≡ t
+      → cond t (Value v (m + 1)) NoNumber ≡ Value n next → FieldThere s at last n next
   close-there v m r true e q =
       let value : v ≡ n = cc in
       let end : m + 1 ≡ next = cc in
@@ -235,18 +239,19 @@ module _ (n at next : ℕ) (last : Bool) (s : List ℕ) where
       (omega (arith, f .end, length-field n last), omega (arith, l, f .end, length-field n last, length-drop at s, length-drop next s))
 
 -- ---- what lies ten places on or further does not matter
-numberOf-take : (m at : ℕ) (ds : List ℕ) → 10 ≤ m → numberOf (take m ds) at ≡ numberOf ds at
+numberOf-take : (m at : ℕ) (ds : List ℕ) → 10 ≤ m → readDigits (take m ds) at ≡ readDigits ds at
 numberOf-take m at ds h = go (leb (length ds) m) refl
   where
-    go : (t : Bool) → leb (length ds) m ≡ t → numberOf (take m ds) at ≡ numberOf ds at
-    go true e = ap (λ (l : List ℕ). numberOf l at) (take-all m ds (leb-true (length ds) m e))
+    go : (t : Bool) → leb (length ds) m ≡ t → readDigits (take m ds) at ≡ readDigits ds at
+    go true e = ap (λ (l : List ℕ). readDigits l at) (take-all m ds (leb-true (length ds) m e))
     go false e =
         let l = leb-false (length ds) m e in
         numberOf-wrong (take m ds) at (long-form (take m ds) (omega (arith, length-take m ds))) ∙ sym (numberOf-wrong ds at (long-form ds (omega arith)))
 
 pub number-take : (k at : ℕ) (s : List ℕ) → at + 10 ≤ k → numberAt (take k s) at ≡ numberAt s at
 number-take k at s h =
-    ap (λ (l : List ℕ). numberOf l at) (ap digitsOf (drop-take at k s) ∙ digits-take (k - at) (drop at s)) ∙ numberOf-take (k - at) at (digitsOf (drop at s)) (omega arith)
+    ap (λ (l : List ℕ). readDigits l at) (ap digitsOf (drop-take at k s) ∙ digits-take (k - at) (drop at s))
+    ∙ numberOf-take (k - at) at (digitsOf (drop at s)) (omega arith)
 
 pub field-take : (k at : ℕ) (last : Bool) (s : List ℕ) → at + 10 ≤ k → fieldAt (take k s) at last ≡ fieldAt s at last
 unfolding fieldAt

@@ -3,18 +3,14 @@
 use Prim.Native.Nat.{ℕ, suc, _+_, _-_, _/_, _%_, _^_, _≤_, _<_}
 use native.Mathlib.Nat.{div-le-self}
 use native.Mathlib.Omega.{arith}
-use mathlib.Core.Bool.{Bool}
 use mathlib.Core.List.{List, [], _∷_, _++_, append-assoc, append-nil}
 use mathlib.Core.Path.{_≡_, refl, sym, ap, _∙_}
 use lib.ListN.{length, take, drop, set, length-append, length-drop, length-set}
 use lib.Seq.{take-all, drop-cons, drop-set-lt, getD-set-same}
-use Rattle.laws.specs.Splice.{Wrote, wrote-then, wrote-length}
-use Rattle.laws.specs.Writes.{wrote-byte}
-use Rattle.text.specs.Decimal.{decimal, field}
-use Rattle.text.specs.Number.{separator}
+use Rattle.text.specs.Decimal.{decimal}
 use Rattle.text.proofs.DecimalLaws.{decimal-width, width-most, length-decimal, decimal-one, decimal-last}
 
--- ---- the row: its places from i on hold the last digits of n, and the others are those of v
+-- the row: its places from i on hold the last digits of n, and the others are those of v
 pub record Row (n : ℕ) (row : List ℕ) (v i : ℕ) : Type 0 where
   pub long : length row ≡ 20
   pub within : i ≤ 20
@@ -35,7 +31,8 @@ in-front row i d o h =
 module _ (n : ℕ) (row : List ℕ) (v i : ℕ) (r : Row n row v i) where
   pub row-room : 1 ≤ i
   row-room =
-      omega (arith, ap length (r .text) ∙ length-append (decimal v) (drop i row), length-drop i row, r .long, length-decimal v, decimal-width n, width-most 19 n)
+      omega
+      (arith, ap length (r .text) ∙ length-append (decimal v) (drop i row), length-drop i row, r .long, length-decimal v, decimal-width n, width-most 19 n)
 
   pub row-more : 10 ≤ v → Row n (set row (i - 1) (48 + v % 10)) (v / 10) (i - 1)
   row-more ten =
@@ -56,46 +53,3 @@ module _ (n : ℕ) (row : List ℕ) (v i : ℕ) (r : Row n row v i) where
       take-all (20 - (i - 1)) (drop (i - 1) all) (omega (arith, length-drop (i - 1) all, length-set row (i - 1) (48 + v), r .long))
       ∙ in-front row i (48 + v) row-room (omega (arith, r .within, r .long))
       ∙ sym (r .text ∙ rw (decimal-one v l) refl)
-
--- ---- a number with its separator
-module _ (out₀ : List ℕ) (at n : ℕ) (last : Bool) (room : at + length (field n last) ≤ length out₀) where
-  pub field-room : at + length (decimal n) < length out₀
-  field-room = omega (arith, length-append (decimal n) (separator last ∷ []))
-
-  module _ (to : ℕ) (out : List ℕ) (w : Wrote out₀ at (decimal n) to out) where
-    pub separator-room : to < length out
-    separator-room =
-        let r = field-room in
-        omega (arith, w .end, wrote-length out₀ at (decimal n) to out (omega arith) w)
-
-    pub field-written : (out′ : List ℕ) → out′ ≡ set out to (separator last) → Wrote out₀ at (field n last) (to + 1) out′
-    field-written out′ e =
-        let r = field-room in
-        let b = wrote-byte out to (separator last) separator-room in
-        rw e (wrote-then out₀ at (decimal n) (separator last ∷ []) to (to + 1) out (set out to (separator last)) (omega arith) w b)
-
--- ---- a number of one digit, and of two
-module _ (out : List ℕ) (at n : ℕ) (room : at + length (decimal n) ≤ length out) where
-  module _ (h : n < 10) where
-    pub one-room : at < length out
-    one-room = let r = rw (decimal-one n h) at room in omega arith
-
-    pub one-written : Wrote out at (decimal n) (at + 1) (set out at (48 + n))
-    one-written = rw (decimal-one n h) (wrote-byte out at (48 + n) one-room)
-
-  module _ (ten : 10 ≤ n) (h : n < 100) where
-    decimal-two : decimal n ≡ (48 + n / 10) ∷ (48 + n % 10) ∷ []
-    decimal-two = decimal-last n ten (omega arith) ∙ rw (decimal-one (n / 10) (omega arith)) refl
-
-    pub two-room : at + 1 < length out
-    two-room = let r = rw decimal-two at room in omega arith
-
-    pub two-written : Wrote out at (decimal n) (at + 2) (set (set out at (48 + n / 10)) (at + 1) (48 + n % 10))
-    two-written =
-        let first = set out at (48 + n / 10) in
-        let r = two-room in
-        let l = length-set out at (48 + n / 10) in
-        let two : at + 1 + 1 ≡ at + 2 = omega arith in
-        rw (decimal-two, ← two)
-        (wrote-then out at ((48 + n / 10) ∷ []) ((48 + n % 10) ∷ []) (at + 1) (at + 1 + 1) first (set first (at + 1) (48 + n % 10)) (omega arith)
-        (wrote-byte out at (48 + n / 10) (omega arith)) (wrote-byte first (at + 1) (48 + n % 10) (omega arith)))

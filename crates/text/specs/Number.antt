@@ -5,17 +5,18 @@ use mathlib.Core.Bool.{Bool, not, cond, _&&_, _||_}
 use lib.ListN.{length, getD, drop}
 use lib.Dec.{leb, eqb}
 use Rattle.text.specs.declared.ByteClass.{ByteClass}
-use Rattle.text.specs.declared.ByteClass.the-variants.{Digit, Comma, LineEnd, Other}
+use Rattle.text.specs.declared.ByteClass.the-variants.{Zero, Digit, Comma, LineEnd, Other}
 use Rattle.text.specs.declared.NumberRead.{NumberRead}
 use Rattle.text.specs.declared.NumberRead.the-variants.{Value, NoNumber}
 use Rattle.text.specs.Key.{beginsWith}
 
+-- the byte of a decimal digit
 abbrev pub isDigit : ℕ → Bool
 isDigit b = leb 48 b && leb b 57
 
--- what a byte is to a reader of cards
+-- what a byte is to a reader of cards: a zero has a class of its own, since no longer number begins with it
 abbrev pub classOf : ℕ → ByteClass
-classOf b = cond (isDigit b) (Digit (b - 48)) (cond (eqb b 44) Comma (cond (eqb b 10) LineEnd Other))
+classOf b = cond (isDigit b) (cond (eqb b 48) Zero (Digit (b - 48))) (cond (eqb b 44) Comma (cond (eqb b 10) LineEnd Other))
 
 -- the digits that a list begins with, as numbers
 unfoldable pub digitsOf : List ℕ → List ℕ
@@ -31,17 +32,19 @@ valueOf v (d ∷ ds) = valueOf (v * 10 + d) ds
 abbrev pub wellFormed : List ℕ → Bool
 wellFormed ds = leb 1 (length ds) && leb (length ds) 9 && (eqb (length ds) 1 || not (eqb (getD ds 0 0) 0))
 
--- the number that stands at a position, and the position behind it
-abbrev pub numberOf : List ℕ → ℕ → NumberRead
-numberOf ds at = cond (wellFormed ds) (Value (valueOf 0 ds) (at + length ds)) NoNumber
+-- the number that the digits from a position on make, and the position behind it
+abbrev pub readDigits : List ℕ → ℕ → NumberRead
+readDigits ds at = cond (wellFormed ds) (Value (valueOf 0 ds) (at + length ds)) NoNumber
 
+-- the number that stands at a position, and the position behind it
 abbrev pub numberAt : List ℕ → ℕ → NumberRead
-numberAt s at = numberOf (digitsOf (drop at s)) at
+numberAt s at = readDigits (digitsOf (drop at s)) at
 
 -- what stands behind a number: a comma between the numbers of a list, and byte 10 behind the last of a line
 abbrev pub separator : Bool → ℕ
 separator last = cond last 10 44
 
+-- a number counts where its separator stands behind it
 abbrev pub closed : List ℕ → Bool → NumberRead → NumberRead
 closed s last NoNumber = NoNumber
 closed s last (Value v next) = cond (beginsWith (separator last ∷ []) (drop next s)) (Value v (next + 1)) NoNumber

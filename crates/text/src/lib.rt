@@ -1,28 +1,36 @@
 // The bytes of a card: keys, words and decimal numbers, compared or read at a position and written to a position.
 ghost use mathlib.Core.Path.{_≡_};
-ghost use Prim.Native.Nat.{_+_, _^_, _≤_, _<_};
-ghost use mathlib.Core.Bool.{cond};
+ghost use Prim.Native.Nat.{_<_};
 ghost use mathlib.Core.List.{[], _∷_};
-ghost use lib.ListN.{length, drop};
-ghost use Rattle.laws.specs.Splice.{Wrote};
-ghost use Rattle.text.specs.declared.NumberRead.the-variants.{Value, NoNumber};
+ghost use lib.ListN.{length, getD, drop};
+ghost use Rattle.laws.specs.Writing.{Puts};
+ghost use Rattle.text.specs.declared.ByteClass.the-variants.{Digit};
+ghost use Rattle.text.specs.declared.NumberRead.the-variants.{Value};
 ghost use Rattle.text.specs.Key.{beginsWith};
-ghost use Rattle.text.specs.Number.{classOf, fieldAt, separator};
+ghost use Rattle.text.specs.Number.{classOf, separator, closed, fieldAt};
 ghost use Rattle.text.specs.Decimal.{decimal, field};
 
-// What a byte is to a reader of cards.
-pub enum ByteClass {
+// What a byte is to a reader of cards; the digits from 1 on with their value.
+enum ByteClass {
+    Zero,
     Digit(u8),
     Comma,
     LineEnd,
     Other,
 }
 
-pub fn class_of(b: u8) -> ByteClass
+// The class of a byte.
+fn class_of(b: u8) -> ByteClass
     ensures { λ r. ⌜ r ≡ classOf b ⌝ }
 {
     match b {
-        48..=57 => ByteClass::Digit(b - 48),
+        48..=57 => {
+            if b == 48 {
+                ByteClass::Zero
+            } else {
+                ByteClass::Digit(b - 48)
+            }
+        }
         44 => ByteClass::Comma,
         10 => ByteClass::LineEnd,
         _ => ByteClass::Other,
@@ -43,77 +51,73 @@ pub fn field_at(s: &[u8], at: usize, last: bool) -> NumberRead
         return NumberRead::NoNumber;
     }
     let c = class_of(s[at]);
-    let ByteClass::Digit(first) = c else {
-        return NumberRead::NoNumber;
-    };
-    let mut v = first as u32;
-    let mut i: usize = at + 1;
-    while i < s.len() {
-        let c = class_of(s[i]);
-        match c {
-            ByteClass::Digit(d) => {
-                if first == 0 {
-                    return NumberRead::NoNumber;
-                }
-                if i - at == 9 {
-                    return NumberRead::NoNumber;
-                }
-                v = v * 10 + d as u32;
-                i += 1;
-            }
-            ByteClass::LineEnd => {
-                return ended(last, v, i);
-            }
-            ByteClass::Comma => {
-                return ended(!last, v, i);
-            }
-            ByteClass::Other => {
-                return NumberRead::NoNumber;
-            }
-        }
+    match c {
+        ByteClass::Zero => closed(s, at + 1, 0, last),
+        ByteClass::Digit(first) => number_from(s, at, first, last),
+        _ => NumberRead::NoNumber,
     }
-    NumberRead::NoNumber
-}
-
-// A number whose digits end at a position, and whether the right separator stands there.
-fn ended(right: bool, value: u32, at: usize) -> NumberRead
-    requires { ⌜ at + 1 < 2 ^ 64 ⌝ }
-    ensures { λ r. ⌜ r ≡ cond right (Value value (at + 1)) NoNumber ⌝ }
-{
-    if right {
-        return NumberRead::Value {
-            value,
-            next: at + 1,
-        };
-    }
-    NumberRead::NoNumber
 }
 
 // The same, and quicker where the number has one digit, as most weights of a net.
 pub fn item_at(s: &[u8], at: usize, last: bool) -> NumberRead
     ensures { λ r. ⌜ r ≡ fieldAt (now (s .entry)) at last ⌝ }
 {
-    if at < s.len() {
-        let b = s[at];
-        if 48 <= b {
-            if b <= 57 {
-                if separated(s, at + 1, last) {
-                    return NumberRead::Value {
-                        value: (b - 48) as u32,
-                        next: at + 2,
-                    };
-                }
-            }
+    if s.len() <= at {
+        return NumberRead::NoNumber;
+    }
+    let c = class_of(s[at]);
+    let d = match c {
+        ByteClass::Zero => 0,
+        ByteClass::Digit(first) => first,
+        _ => {
+            return NumberRead::NoNumber;
         }
+    };
+    if separated(s, at + 1, last) {
+        return NumberRead::Value {
+            value: d as u32,
+            next: at + 2,
+        };
     }
     field_at(s, at, last)
 }
 
-// What stands behind a number.
-fn separator_of(last: bool) -> u8
-    ensures { λ r. ⌜ r ≡ separator last ⌝ }
+// The number that begins with a digit other than 0.
+fn number_from(s: &[u8], at: usize, first: u8, last: bool) -> NumberRead
+    requires { ⌜ (at < length (now s)) × (classOf (getD (now s) at 0) ≡ Digit first) ⌝ }
+    ensures { λ r. ⌜ r ≡ fieldAt (now (s .entry)) at last ⌝ }
 {
-    if last { 10 } else { 44 }
+    let mut v = first as u32;
+    let mut i: usize = at + 1;
+    while i < s.len() {
+        let c = class_of(s[i]);
+        let d = match c {
+            ByteClass::Zero => 0,
+            ByteClass::Digit(more) => more,
+            _ => {
+                return closed(s, i, v, last);
+            }
+        };
+        if i - at == 9 {
+            return NumberRead::NoNumber;
+        }
+        v = v * 10 + d as u32;
+        i += 1;
+    }
+    NumberRead::NoNumber
+}
+
+// A number whose digits end at a position, if its separator stands there.
+fn closed(s: &[u8], at: usize, value: u32, last: bool) -> NumberRead
+    ensures { λ r. ⌜ r ≡ closed (now (s .entry)) last (Value value at) ⌝ }
+{
+    if separated(s, at, last) {
+        return NumberRead::Value {
+            value,
+            next: at + 1,
+        };
+    }
+    NumberRead::NoNumber
 }
 
 // Whether the separator stands at a position.
@@ -123,7 +127,12 @@ fn separated(s: &[u8], at: usize, last: bool) -> bool
     if s.len() <= at {
         return false;
     }
-    s[at] == separator_of(last)
+    let c = class_of(s[at]);
+    match c {
+        ByteClass::LineEnd => last,
+        ByteClass::Comma => !last,
+        _ => false,
+    }
 }
 
 // Whether a key stands at a position.
@@ -146,38 +155,74 @@ pub fn begins_at(s: &[u8], at: usize, key: &[u8]) -> bool
     true
 }
 
-// The writers below each ask for room behind their position; the writer of a whole card shows it once, by the longest card.
+// What stands behind a number.
+fn separator_of(last: bool) -> u8
+    ensures { λ r. ⌜ r ≡ separator last ⌝ }
+{
+    if last { 10 } else { 44 }
+}
+
+// The writers below ask for no room: what does not fit is not written, and the position behind it then stands one past the end and stays there.
+
+// A byte written at a position; the position behind it.
+pub fn put_byte(out: &mut [u8], at: usize, b: u8) -> usize
+    ensures { λ r. ⌜ Puts (now (out .entry)) at (b ∷ []) r (now (out .exit)) ⌝ }
+{
+    if at < out.len() {
+        out[at] = b;
+        return at + 1;
+    }
+    out.len() + 1
+}
 
 // A text copied to a position; the position behind it.
 pub fn put_bytes(out: &mut [u8], at: usize, text: &[u8]) -> usize
-    requires { ⌜ at + length (now text) ≤ length (now out) ⌝ }
-    ensures { λ r. ⌜ Wrote (now (out .entry)) at (now (text .entry)) r (now (out .exit)) ⌝ }
+    ensures { λ r. ⌜ Puts (now (out .entry)) at (now (text .entry)) r (now (out .exit)) ⌝ }
 {
-    let n = bytes::copy(text, &mut out[at..]);
-    at + n
+    if at <= out.len() {
+        if text.len() <= out.len() - at {
+            let n = bytes::copy(text, &mut out[at..]);
+            return at + n;
+        }
+    }
+    put_each(out, at, text)
+}
+
+// The same of a text that may not fit, byte by byte.
+fn put_each(out: &mut [u8], at: usize, text: &[u8]) -> usize
+    ensures { λ r. ⌜ Puts (now (out .entry)) at (now (text .entry)) r (now (out .exit)) ⌝ }
+{
+    let mut to = at;
+    let mut i: usize = 0;
+    while i < text.len() {
+        to = put_byte(&mut *out, to, text[i]);
+        i += 1;
+    }
+    to
 }
 
 // A number written at a position, its highest digit first; the position behind it.
 pub fn put_number(out: &mut [u8], at: usize, n: u64) -> usize
-    requires { ⌜ at + length (decimal n) ≤ length (now out) ⌝ }
-    ensures { λ r. ⌜ Wrote (now (out .entry)) at (decimal n) r (now (out .exit)) ⌝ }
+    ensures { λ r. ⌜ Puts (now (out .entry)) at (decimal n) r (now (out .exit)) ⌝ }
 {
     if n < 10 {
-        out[at] = (48 + n) as u8;
-        return at + 1;
+        return put_byte(out, at, (48 + n) as u8);
     }
     if n < 100 {
-        out[at] = (48 + n / 10) as u8;
-        out[at + 1] = (48 + n % 10) as u8;
-        return at + 2;
+        if at < out.len() {
+            if 2 <= out.len() - at {
+                out[at] = (48 + n / 10) as u8;
+                out[at + 1] = (48 + n % 10) as u8;
+                return at + 2;
+            }
+        }
     }
     put_digits(out, at, n)
 }
 
 // The same, of any number: its digits from the lowest up, then copied.
 fn put_digits(out: &mut [u8], at: usize, n: u64) -> usize
-    requires { ⌜ at + length (decimal n) ≤ length (now out) ⌝ }
-    ensures { λ r. ⌜ Wrote (now (out .entry)) at (decimal n) r (now (out .exit)) ⌝ }
+    ensures { λ r. ⌜ Puts (now (out .entry)) at (decimal n) r (now (out .exit)) ⌝ }
 {
     let mut digits = [0u8; 20];
     let mut v = n;
@@ -194,14 +239,24 @@ fn put_digits(out: &mut [u8], at: usize, n: u64) -> usize
 
 // A number and its separator written at a position; the position behind both.
 pub fn put_field(out: &mut [u8], at: usize, n: u64, last: bool) -> usize
-    requires { ⌜ at + length (field n last) ≤ length (now out) ⌝ }
-    ensures { λ r. ⌜ Wrote (now (out .entry)) at (field n last) r (now (out .exit)) ⌝ }
+    ensures { λ r. ⌜ Puts (now (out .entry)) at (field n last) r (now (out .exit)) ⌝ }
 {
     let to = put_number(&mut *out, at, n);
-    if last {
-        out[to] = 10;
-    } else {
-        out[to] = 44;
+    put_byte(out, to, separator_of(last))
+}
+
+// The same, and quicker where the number has one digit, as most weights of a net.
+pub fn put_item(out: &mut [u8], at: usize, n: u64, last: bool) -> usize
+    ensures { λ r. ⌜ Puts (now (out .entry)) at (field n last) r (now (out .exit)) ⌝ }
+{
+    if n < 10 {
+        if at < out.len() {
+            if 2 <= out.len() - at {
+                out[at] = (48 + n) as u8;
+                out[at + 1] = separator_of(last);
+                return at + 2;
+            }
+        }
     }
-    to + 1
+    put_field(out, at, n, last)
 }

@@ -38,7 +38,8 @@ Right n es (some x) = Best n es x
 
 module _ (n : ℕ) (es : List Edge) (fits : Each (Fits n) es) where
   -- either the list is settled, or what comes next is right
-  either-right : (x : List ℕ) (next : Option (List ℕ)) → Start n es x → (settled es x ≡ false → Right n es next) → Right n es (cond (settled es x) (some x) next)
+  either-right : (x : List ℕ) (next : Option (List ℕ)) → Start n es x → (settled es x ≡ false → Right n es next)
+      → Right n es (cond (settled es x) (some x) next)
   either-right x next s h = go (settled es x) refl
     where
       go : (b : Bool) → settled es x ≡ b → Right n es (cond b (some x) next)

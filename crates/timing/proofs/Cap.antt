@@ -5,7 +5,7 @@ use mathlib.Core.Path.{refl}
 use mathlib.Core.Logic.{_⊎_, inl, inr, ⊎-elim}
 use native.Mathlib.Decide.{le-ind}
 use native.Mathlib.Omega.{arith}
-use Rattle.laws.specs.Sum.{le-or-lt}
+use Rattle.laws.specs.Sums.{le-or-lt}
 use Rattle.timing.specs.Timing.{Upper, atMost, below, unbounded, Win, Within, Meets, Feasible, LowsLe, Wellformed, capped}
 
 -- from instant j to instant i: no time goes back, none is gained, and none is lost unless K is left

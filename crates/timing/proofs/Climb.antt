@@ -6,9 +6,10 @@ use mathlib.Core.Logic.{⊎-elim}
 use lib.ListN.{length}
 use native.Mathlib.Omega.{arith}
 use Rattle.laws.specs.Each.{Each, each-zip}
-use Rattle.laws.specs.Sum.{le-or-lt, sum, sum-le, sum-same, sum-term, sum-not-all, less, less-cases, less-le, less-none, none-less, less-anti}
+use Rattle.laws.specs.Sums.{le-or-lt, sum, sum-le, sum-same, sum-term, sum-not-all, less, less-cases, less-le, less-none, none-less, less-anti}
 use Rattle.timing.specs.Solve.{Edge, instantAt, pass}
-use Rattle.timing.proofs.Pass.{Serves, Sat, Fits, Under, pass-length, pass-up, pass-serves, pass-under}
+use Rattle.timing.proofs.Pass.{Serves, Sat, Fits, pass-length, pass-up, pass-serves, pass-under}
+use Rattle.timing.specs.Timing.{Under}
 
 pub record Least (es : List Edge) (L : ℕ → ℕ) : Type 0 where
   pub sat : Sat es L

@@ -5,7 +5,7 @@ use mathlib.Core.List.{List, []}
 use mathlib.Core.Logic.{⊎-elim}
 use native.Mathlib.Omega.{arith}
 use Rattle.laws.specs.Each.{Each}
-use Rattle.laws.specs.Sum.{le-or-lt}
+use Rattle.laws.specs.Sums.{le-or-lt}
 use Rattle.timing.specs.Timing.{Upper, atMost, below, unbounded, Win, Within, Meets, Wellformed}
 use Rattle.timing.specs.Solve.{Edge, upperEdge, windowEdges, edges}
 use Rattle.timing.proofs.Pass.{Serves, Sat, Fits}
@@ -21,7 +21,8 @@ upper-fits N D (atMost b) o k es h l a = (record { from-le = l; to-le = h }, a)
 upper-fits N D (below b) o k es h l a = (record { from-le = l; to-le = h }, a)
 upper-fits N D unbounded o k es h l a = a
 
-upper-serves : (D : ℕ) (S T : ℕ → ℕ) (u : Upper) (o k : ℕ) (es : List Edge) → Within D u (T o) (S k) → Each (Serves S T) es → Each (Serves S T) (upperEdge D u o k es)
+upper-serves : (D : ℕ) (S T : ℕ → ℕ) (u : Upper) (o k : ℕ) (es : List Edge) → Within D u (T o) (S k) → Each (Serves S T) es
+    → Each (Serves S T) (upperEdge D u o k es)
 upper-serves D S T (atMost b) o k es h a = (omega arith, a)
 upper-serves D S T (below b) o k es h a = (omega arith, a)
 upper-serves D S T unbounded o k es h a = a
@@ -36,8 +37,14 @@ module _ (D : ℕ) (W : ℕ → Win) where
   fits-in N zero l wf es a = a
   fits-in N (suc i) l wf es a =
       let o = wf i (omega arith) in
-      fits-in N i (omega arith) (λ k b. wf k (omega arith)) (windowEdges D i (W i) es)
-      (record { from-le = omega arith; to-le = l }, (record { from-le = omega arith; to-le = l }, upper-fits N D (W i .high) (W i .origin) (suc i) es (omega arith) l a))
+      fits-in N i (omega arith) (λ k b. wf k (omega arith)) (windowEdges D i (W i) es) (
+        record { from-le = omega arith; to-le = l },
+        (
+          record { from-le = omega arith; to-le = l },
+          upper-fits N D (W i .high) (W i .origin) (suc i) es
+              (omega arith) l a,
+        ),
+      )
 
   pub edges-fit : (n : ℕ) → Wellformed W n → Each (Fits n) (edges D W n [])
   edges-fit n wf = fits-in n n (omega arith) wf [] tt
@@ -47,7 +54,8 @@ module _ (D : ℕ) (W : ℕ → Win) where
     serves-in zero m es a = a
     serves-in (suc i) m es a =
         let w = m i (omega arith) in
-        serves-in i (λ k b. m k (omega arith)) (windowEdges D i (W i) es) (omega arith, (omega arith, upper-serves D S T (W i .high) (W i .origin) (suc i) es (w .late) a))
+        serves-in i (λ k b. m k (omega arith)) (windowEdges D i (W i) es)
+        (omega arith, (omega arith, upper-serves D S T (W i .high) (W i .origin) (suc i) es (w .late) a))
 
     pub serves-of : (n : ℕ) → ((i : ℕ) → i < n → Served D S T i (W i)) → Each (Serves S T) (edges D W n [])
     serves-of n m = serves-in n m [] tt
@@ -65,7 +73,8 @@ module _ (D : ℕ) (W : ℕ → Win) where
           λ k l.
               ⊎-elim
               (λ h. b .0 k h)
-              (λ h. let e : k ≡ i = omega arith in subst⁻¹ (λ (j : ℕ). Meets D S j (W j)) e (record { ordered = omega arith; early = omega arith; late = u .0 }))
+              (λ h. let e : k ≡ i = omega arith in subst⁻¹ (λ (j : ℕ). Meets D S j (W j)) e
+              (record { ordered = omega arith; early = omega arith; late = u .0 }))
               (le-or-lt (suc k) i),
           u .1,
         )

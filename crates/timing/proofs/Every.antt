@@ -19,12 +19,10 @@ module _ (W : ℕ → Win) (n : ℕ) where
     pub least-every : (x : List ℕ) → LeastInstants 1 W n x → (D : ℕ) → 0 < D → (S : ℕ → ℕ) → Feasible D W n S → (i : ℕ) → D * instantAt x i ≤ S i
     least-every x l D d S f i = le-trans (mul-le-mul-left D (l .least (λ k. S k / D) (round D d c f) i)) (mul-div-le (S i) D)
 
-    pub none-every : Answers 1 W n none → (D : ℕ) → 0 < D → (S : ℕ → ℕ) → Feasible D W n S → ⊥
-    none-every a D d S f = a (λ k. S k / D) (round D d c f)
-
     pub first-every : (k : ℕ) → FirstFail 1 W n k → (D : ℕ) → 0 < D → (S : ℕ → ℕ) → Feasible D W k S → ⊥
     first-every k r D d S f = r .fails-at (λ j. S j / D) (round D d (λ i l. c i (omega (arith, r .reached))) f)
 
+  -- for intervals whose upper end is excluded, which no net has yet
   module _ (wf : Wellformed W n) (N : ℕ) (big : n < N) where
     pub open-possible : (D : ℕ) → 0 < D → Possible D W n → Possible N W n
     open-possible D d p = (ranked D d (p .0) n N big, rank-feasible D d (p .0) n N big W wf (p .1))

@@ -6,8 +6,8 @@ use native.Mathlib.Omega.{arith}
 use mathlib.Core.Path.{_≡_, refl, ap, _∙_}
 use mathlib.Core.List.{List, [], _∷_}
 use lib.ListN.{length, getD}
-use Rattle.laws.specs.Div.{div-le}
-use Rattle.laws.specs.Tabled.{tabled, entry, length-tabled}
+use Rattle.laws.specs.Division.{div-le}
+use Rattle.laws.specs.Tables.{tabled, tabled-at, length-tabled}
 use Rattle.timing.specs.Solve.{instantAt}
 use Rattle.timing.specs.Windows.{instants}
 use Rattle.timing.specs.Schedule.{waitsFrom, waitsBetween, roundedFrom, roundedWaits}
@@ -58,9 +58,9 @@ instants-between S n z up i l =
     let x = tabled S 0 (suc n) in
     let size = length-tabled S 0 (suc n) in
     instants-list x z
-    (λ k b. let c : suc k < suc n = omega arith in omega (arith, entry S (suc n) k (omega arith), entry S (suc n) (suc k) c, up k (le-of-suc-le-suc c)))
+    (λ k b. let c : suc k < suc n = omega arith in omega (arith, tabled-at S (suc n) k (omega arith), tabled-at S (suc n) (suc k) c, up k (le-of-suc-le-suc c)))
     i (omega arith)
-    ∙ entry S (suc n) i (suc-le-suc l)
+    ∙ tabled-at S (suc n) i (suc-le-suc l)
 
 -- ---- a wait, and the instants behind the last
 pub wait-le : (ws : List ℕ) (i : ℕ) → getD ws i 0 ≤ instants ws (suc i)

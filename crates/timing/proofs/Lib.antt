@@ -13,10 +13,6 @@ pub mod Order
 pub mod Instants
 pub mod Timings
 pub mod Scheduled
-pub mod RunCards
 pub mod Markings
 pub mod Rounded
-pub mod RoundLoop
-pub mod CollectLoop
-pub mod TimetableLoop
 pub mod Places

@@ -9,8 +9,8 @@ use Rattle.run.specs.declared.Firing.{Firing}
 use Rattle.firing.specs.declared.State.{State}
 use Rattle.firing.specs.Semantics.{Restart}
 use Rattle.firing.specs.Replay.{startState, waited, fired, judged, play}
-use Rattle.timing.specs.Windows.{orderOf}
-use Rattle.timing.specs.Rounding.{markingAfter}
+use Rattle.run.specs.Run.{orderOf}
+use Rattle.firing.specs.Tokens.{markingAfter}
 use Rattle.timing.proofs.Meet.{step-passed}
 
 pub order-prefix : (i : ℕ) (fs : List Firing) → orderOf (take i fs) ≡ take i (orderOf fs)
@@ -21,7 +21,8 @@ order-prefix (suc i) (f ∷ fs) = ap (λ (order : List ℕ). f .fire ∷ order) 
 
 module _ (net : Net) (restarts : Restart) where
   module _ (D : ℕ) where
-    pub play-prefix : (i : ℕ) (fs : List Firing) (st : State) (n : ℕ) → play net restarts D fs st n .checked ≡ Passed → play net restarts D (take i fs) st n .checked ≡ Passed
+    pub play-prefix : (i : ℕ) (fs : List Firing) (st : State) (n : ℕ) → play net restarts D fs st n .checked ≡ Passed
+        → play net restarts D (take i fs) st n .checked ≡ Passed
     unfolding play
     play-prefix zero fs st n e = refl
     play-prefix (suc i) [] st n e = refl

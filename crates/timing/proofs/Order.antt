@@ -12,12 +12,14 @@ use Rattle.net.specs.declared.Latest.{Latest}
 use Rattle.net.specs.declared.Latest.the-variants.{Unbounded, Ticks}
 use Rattle.net.specs.declared.Net.{Net}
 use Rattle.firing.specs.declared.State.{State}
-use Rattle.firing.specs.Semantics.{Restart, transitionAt, startMarking, after}
+use Rattle.firing.specs.Semantics.{arcsOf, Restart, transitionAt, startMarking, after}
 use Rattle.firing.specs.Replay.{startState, waited, fired}
-use Rattle.firing.proofs.Clocks.{Past, past-waited, past-fired, enabled-listed}
-use Rattle.firing.proofs.Accept.{start-past}
-use Rattle.timing.specs.Timing.{Win, windows, Closed, AllClosed, Wellformed, LowsLe}
-use Rattle.timing.specs.Windows.{tokensJudged, tokens, upperOf, windowAt, windowsFrom, windowsOf}
+use Rattle.firing.specs.Tokens.{tokensJudged, tokens}
+use Rattle.firing.proofs.Clocks.{Sound, sound-waited, sound-fired, enabled-listed}
+use Rattle.firing.proofs.Accept.{start-sound}
+use Rattle.timing.specs.declared.Window.{Window}
+use Rattle.timing.specs.Timing.{Closed, AllClosed, Wellformed, LowsLe}
+use Rattle.timing.specs.Windows.{upperOf, windows, windowAt, windowsFrom, windowsOf}
 use Rattle.timing.proofs.Meet.{tokens-passed}
 
 closed-upper : (l : Latest) → Closed (upperOf l)
@@ -29,14 +31,14 @@ module _ (net : Net) (restarts : Restart) where
   unfolding fired waited
   next-now st t = refl
 
-  origin-before : (order : List ℕ) (st : State) → Past st → (i : ℕ) → i < length order → windows (windowsFrom net restarts order st) i .origin ≤ st .now + i
+  origin-before : (order : List ℕ) (st : State) → Sound st → (i : ℕ) → i < length order → windows (windowsFrom net restarts order st) i .origin ≤ st .now + i
   unfolding windowsFrom
   origin-before [] st h i l = absurd (not-suc-le-zero l)
-  origin-before (t ∷ order) st h zero l = omega (arith, h t)
+  origin-before (t ∷ order) st h zero l = omega (arith, h .past t)
   origin-before (t ∷ order) st h (suc i) l =
       omega (
         arith,
-        origin-before order (fired net restarts (waited st 1) t) (past-fired net restarts (waited st 1) t (past-waited st 1 h)) i (le-of-suc-le-suc l),
+        origin-before order (fired net restarts (waited st 1) t) (sound-fired net restarts (waited st 1) t (sound-waited st 1 h)) i (le-of-suc-le-suc l),
         next-now st t,
       )
 
@@ -53,12 +55,12 @@ module _ (net : Net) (restarts : Restart) where
   unfolding windowsFrom
   windows-prefix zero order st = refl
   windows-prefix (suc k) [] st = refl
-  windows-prefix (suc k) (t ∷ order) st = ap (λ (ws : List Win). windowAt net st t ∷ ws) (windows-prefix k order (fired net restarts (waited st 1) t))
+  windows-prefix (suc k) (t ∷ order) st = ap (λ (ws : List Window). windowAt net st t ∷ ws) (windows-prefix k order (fired net restarts (waited st 1) t))
 
   module _ (order : List ℕ) where
     pub windows-wellformed : Wellformed (windows (windowsOf net restarts order)) (length order)
     unfolding windowsOf startState
-    windows-wellformed i l = omega (arith, origin-before order (startState net) (start-past net restarts 1) i l)
+    windows-wellformed i l = omega (arith, origin-before order (startState net) (start-sound net) i l)
 
     pub windows-closed : AllClosed (windows (windowsOf net restarts order)) (length order)
     unfolding windowsOf
@@ -71,21 +73,23 @@ tokens-prefix net zero order m n e = refl
 tokens-prefix net (suc k) [] m n e = refl
 tokens-prefix net (suc k) (t ∷ order) m n e =
     let here = tokensJudged net m t (n + 1) in
-    let rest = tokens net order (after net m t) (n + 1) in
-    rw (also-first here rest e) (tokens-prefix net k order (after net m t) (n + 1) (also-second here rest e))
+    let rest = tokens net order (after (arcsOf net) m t) (n + 1) in
+    rw (also-first here rest e) (tokens-prefix net k order (after (arcsOf net) m t) (n + 1) (also-second here rest e))
 
 -- and each firing is of a transition of the net
-tokens-listed : (net : Net) (order m : List ℕ) (n : ℕ) → tokens net order m n ≡ Passed → (i : ℕ) → i < length order → getD order i 0 < net .transitions
+tokens-listed : (net : Net) (order m : List ℕ) (n : ℕ) → tokens net order m n ≡ Passed → (i : ℕ) → i < length order → getD order i 0 < arcsOf net .transitions
 unfolding tokens
 tokens-listed net [] m n e i l = absurd (not-suc-le-zero l)
 tokens-listed net (t ∷ order) m n e zero l =
-    enabled-listed net m t (tokens-passed net m t (n + 1) (also-first (tokensJudged net m t (n + 1)) (tokens net order (after net m t) (n + 1)) e) .0)
+    enabled-listed (arcsOf net) m t (tokens-passed net m t (n + 1)
+    (also-first (tokensJudged net m t (n + 1)) (tokens net order (after (arcsOf net) m t) (n + 1)) e) .0)
 tokens-listed net (t ∷ order) m n e (suc i) l =
-    tokens-listed net order (after net m t) (n + 1) (also-second (tokensJudged net m t (n + 1)) (tokens net order (after net m t) (n + 1)) e) i (le-of-suc-le-suc l)
+    tokens-listed net order (after (arcsOf net) m t) (n + 1) (also-second (tokensJudged net m t (n + 1))
+    (tokens net order (after (arcsOf net) m t) (n + 1)) e) i (le-of-suc-le-suc l)
 
 -- so no lower bound is over K where no transition's is
 pub windows-lows : (net : Net) (restarts : Restart) (order : List ℕ) → tokens net order (startMarking net) 0 ≡ Passed
-    → (K : ℕ) → ((t : ℕ) → t < net .transitions → transitionAt net t .earliest ≤ K) → LowsLe K 1 (windows (windowsOf net restarts order)) (length order)
+    → (K : ℕ) → ((t : ℕ) → t < arcsOf net .transitions → transitionAt net t .earliest ≤ K) → LowsLe K 1 (windows (windowsOf net restarts order)) (length order)
 unfolding windowsOf
 windows-lows net restarts order e K h i l =
     omega (arith, window-bounds net restarts order (startState net) i l .0, h (getD order i 0) (tokens-listed net order (startMarking net) 0 e i l))

@@ -9,6 +9,7 @@ use native.Mathlib.Nat.{le-refl, le-trans}
 use native.Mathlib.Decide.{ℕ-discrete}
 use native.Mathlib.Omega.{arith}
 use Rattle.laws.specs.Each.{Each, each-map}
+use Rattle.timing.specs.Timing.{Under}
 use Rattle.timing.specs.Solve.{Edge, instantAt, raise, pass}
 
 -- S asks of the target, T gives it: `Serves S S e` is that S meets e
@@ -23,9 +24,6 @@ pub record Fits (n : ℕ) (e : Edge) : Type 0 where
   pub from-le : e .from ≤ n
   pub to-le : e .to ≤ n
 
-abbrev pub Under : (ℕ → ℕ) → (ℕ → ℕ) → Type 0
-Under S T = (i : ℕ) → S i ≤ T i
-
 module _ (e : Edge) (x : List ℕ) (l : e .to < length x) where
   -- an instant after the raising: the target's, or as it was
   raised : (i : ℕ)
@@ -33,7 +31,8 @@ module _ (e : Edge) (x : List ℕ) (l : e .to < length x) where
   raised i = go (ℕ-discrete i (e .to))
     where
       go : Dec (i ≡ e .to)
-          → ((i ≡ e .to) × (instantAt (raise e x) i ≡ max (instantAt x i) (instantAt x (e .from) + e .add - e .slack))) ⊎ (instantAt (raise e x) i ≡ instantAt x i)
+          → ((i ≡ e .to) × (instantAt (raise e x) i ≡ max (instantAt x i) (instantAt x (e .from) + e .add - e .slack))) ⊎
+          (instantAt (raise e x) i ≡ instantAt x i)
       go (yes p) = inl (p, rw p (getD-set-same x (e .to) _ 0 l))
       go (no n) = inr (getD-set-other x (e .to) i _ 0 n)
 
@@ -46,7 +45,8 @@ module _ (e : Edge) (x : List ℕ) (l : e .to < length x) where
   raise-under : (T : ℕ → ℕ) → Serves T T e → Under (instantAt x) T → Under (instantAt (raise e x)) T
   raise-under T s u i =
       ⊎-elim
-      (λ (c : (i ≡ e .to) × (instantAt (raise e x) i ≡ max (instantAt x i) (instantAt x (e .from) + e .add - e .slack))). omega (arith, u i, u (e .from), ap T (c .0)))
+      (λ (c : (i ≡ e .to) × (instantAt (raise e x) i ≡ max (instantAt x i) (instantAt x (e .from) + e .add - e .slack))). omega
+      (arith, u i, u (e .from), ap T (c .0)))
       (λ c. omega (arith, u i))
       (raised i)
 
@@ -71,7 +71,8 @@ module _ (n : ℕ) where
         each-map (λ c h. omega (arith, h, raise-up e x l (c .from))) es (pass-serves es (f .1) (raise e x) q),
       )
 
-  pub pass-under : (es : List Edge) → Each (Fits n) es → (x : List ℕ) (T : ℕ → ℕ) → length x ≡ suc n → Sat es T → Under (instantAt x) T → Under (instantAt (pass es x)) T
+  pub pass-under : (es : List Edge) → Each (Fits n) es → (x : List ℕ) (T : ℕ → ℕ) → length x ≡ suc n → Sat es T → Under (instantAt x) T
+      → Under (instantAt (pass es x)) T
   pass-under [] f x T p s u = u
   pass-under (e ∷ es) f x T p s u =
       let l : e .to < length x = omega arith in

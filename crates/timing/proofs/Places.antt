@@ -12,24 +12,25 @@ use Rattle.reply.specs.declared.Checked.the-variants.{Passed, Refused}
 use Rattle.reply.specs.Refusal.{positionOf}
 use Rattle.form.specs.Form.{also}
 use Rattle.net.specs.declared.Net.{Net}
-use Rattle.firing.specs.Semantics.{Restart, startMarking, enabled, after}
-use Rattle.firing.specs.Replay.{bounded}
-use Rattle.timing.specs.Windows.{tokensJudged, tokens}
+use Rattle.firing.specs.Semantics.{arcsOf, Restart, startMarking, enabled, after}
+use Rattle.firing.specs.Replay.{limited}
+use Rattle.firing.specs.Tokens.{tokensJudged, tokens}
 use Rattle.timing.specs.Solve.{Verdict, metBy, failsAt}
-use Rattle.timing.specs.Schedule.{earliestOf, unschedulable, scheduledBy, schedule}
+use Rattle.timing.specs.Schedule.{verdictOf, unschedulable, scheduledBy, schedule}
 use Rattle.timing.proofs.Scheduled.{schedule-refused, schedule-passed, untimable-exactly}
 
 -- n firings have been
 tokens-placed : (net : Net) (order m : List ℕ) (n : ℕ) (r : Refusal) → tokens net order m n ≡ Refused r → positionOf r ≤ n + length order
 unfolding tokens tokensJudged
 tokens-placed net [] m n r = λ e. let z : _≡_ {A = ℕ} 0 1 = cc in absurd (omega arith)
-tokens-placed net (t ∷ order) m n r = go (enabled net m t) (bounded net (after net m t)) (tokens-placed net order (after net m t) (n + 1) r)
+tokens-placed net (t ∷ order) m n r = go (enabled (arcsOf net) m t) (limited (arcsOf net) m t) (tokens-placed net order (after (arcsOf net) m t) (n + 1) r)
   where
     own : positionOf r ≡ n + 1 → positionOf r ≤ n + suc (length order)
     own e = omega arith
 
-    go : (a b : Bool) → (tokens net order (after net m t) (n + 1) ≡ Refused r → positionOf r ≤ n + 1 + length order)
-        → also (cond a (cond b Passed (Refused (TooManyTokens (n + 1)))) (Refused (NotEnabled (n + 1)))) (tokens net order (after net m t) (n + 1)) ≡ Refused r
+    go : (a b : Bool) → (tokens net order (after (arcsOf net) m t) (n + 1) ≡ Refused r → positionOf r ≤ n + 1 + length order)
+        → also (cond a (cond b Passed (Refused (TooManyTokens (n + 1)))) (Refused (NotEnabled (n + 1))))
+        (tokens net order (after (arcsOf net) m t) (n + 1)) ≡ Refused r
         → positionOf r ≤ n + suc (length order)
     go true true ih e = omega (arith, ih e)
     go true false ih e = let same : r ≡ TooManyTokens (n + 1) = cc in own (ap positionOf same)
@@ -39,7 +40,7 @@ module _ (net : Net) (restarts : Restart) (order : List ℕ) (r : Refusal) where
   pub schedule-placed : schedule net restarts order ≡ unschedulable r → positionOf r ≤ length order
   schedule-placed = go (tokens net order (startMarking net) 0) refl
     where
-      timed : tokens net order (startMarking net) 0 ≡ Passed → (v : Verdict) → earliestOf net restarts order ≡ v → scheduledBy v ≡ unschedulable r
+      timed : tokens net order (startMarking net) 0 ≡ Passed → (v : Verdict) → verdictOf net restarts order ≡ v → scheduledBy v ≡ unschedulable r
           → positionOf r ≤ length order
       timed p (metBy x) q e = let z : _≡_ {A = ℕ} 0 1 = cc in absurd (omega arith)
       timed p (failsAt k) q e =
@@ -48,7 +49,7 @@ module _ (net : Net) (restarts : Restart) (order : List ℕ) (r : Refusal) where
           omega (arith, ap positionOf same, first .reached)
 
       go : (c : Checked) → tokens net order (startMarking net) 0 ≡ c → schedule net restarts order ≡ unschedulable r → positionOf r ≤ length order
-      go Passed p e = timed p (earliestOf net restarts order) refl (sym (schedule-passed net restarts order p) ∙ e)
+      go Passed p e = timed p (verdictOf net restarts order) refl (sym (schedule-passed net restarts order p) ∙ e)
       go (Refused q) p e =
           let told : unschedulable q ≡ unschedulable r = sym (schedule-refused net restarts order q p) ∙ e in
           let same : q ≡ r = cc in

@@ -1,36 +1,35 @@
 -- The rounded run of an accepted run is a run: its waits are the rounded waits, which are a timing of the same order in whole ticks. No number of it is
 -- over that of the run, so its card passes the checks. A timing in whole ticks makes a run likewise.
-use Prim.Native.Nat.{ℕ, zero, suc, _+_, _*_, _-_, _/_, _≤_, _<_}
-use native.Mathlib.Nat.{le-of-suc-le-suc, not-suc-le-zero}
+use Prim.Native.Nat.{ℕ, zero, suc, _+_, _*_, _-_, _/_, _≤_, _<_, min}
+use native.Mathlib.Nat.{le-of-suc-le-suc, not-suc-le-zero, min-le-right, min-eq-left}
 use native.Mathlib.Omega.{arith}
 use mathlib.Core.Path.{_≡_, refl, sym, ap, _∙_}
 use mathlib.Core.Logic.{⊎-elim}
 use mathlib.Core.List.{List, [], _∷_}
 use lib.ListN.{length, getD, take}
-use Rattle.laws.specs.Div.{div-le}
-use Rattle.laws.specs.Each.{Each}
-use Rattle.laws.specs.EachAt.{each-of}
+use Rattle.laws.specs.Division.{div-le, div-sum-le, whole-near, difference-near}
+use Rattle.laws.specs.Each.{Each, each-of}
 use Rattle.laws.specs.Slots.{length-first, first-pad}
-use Rattle.laws.specs.Sum.{le-or-lt}
-use Rattle.laws.specs.WholeParts.{div-sum-le, whole-near, difference-near}
+use Rattle.laws.specs.Sums.{le-or-lt}
 use Rattle.reply.specs.declared.Checked.the-variants.{Passed}
 use Rattle.net.specs.declared.Net.{Net}
 use Rattle.run.specs.declared.Memory.{Memory}
 use Rattle.run.specs.declared.Firing.{Firing}
 use Rattle.run.specs.declared.Run.{Run}
 use Rattle.run.specs.declared.Order.{Order}
-use Rattle.run.specs.Run.{noFiring, runCard, orderCard}
+use Rattle.run.specs.Run.{noFiring, runCard, orderCard, firingsOf, firesOf, orderOf, waitsOf}
+use Rattle.run.proofs.Ranges.{FiringFits, run-in-ranges, order-in-ranges}
 use Rattle.run.proofs.Same.{run-clean}
-use Rattle.firing.specs.Semantics.{Restart, transitionAt}
-use Rattle.firing.specs.Replay.{startState, play, firingsOf, replay}
-use Rattle.timing.specs.Windows.{firesOf, orderOf, waitsOf, instants, Timing}
+use Rattle.firing.specs.Semantics.{arcsOf, Restart, transitionAt}
+use Rattle.firing.specs.Replay.{startState, play, replay}
+use Rattle.firing.proofs.Places.{length-firings}
+use Rattle.timing.specs.Windows.{instants, Timing}
 use Rattle.timing.specs.Schedule.{timed, schedule, roundedFrom, roundedWaits}
 use Rattle.timing.specs.Rounding.{zipFirings, lastInstant, endInstant, roundedRun, timetableRun}
 use Rattle.timing.proofs.Meet.{length-order, length-waits}
 use Rattle.timing.proofs.Instants.{wait-le, instants-past, length-rounded, rounded-instants}
 use Rattle.timing.proofs.Timings.{run-timing, rounded-timing}
 use Rattle.timing.proofs.Scheduled.{scheduled-timing, scheduled-early}
-use Rattle.timing.proofs.RunCards.{FiringFits, run-in-ranges, order-in-ranges}
 use Rattle.timing.proofs.Markings.{order-markings}
 
 -- ---- the firings of an order after waits
@@ -59,11 +58,16 @@ zip-entry (w ∷ ws) [] i l e = absurd (omega arith)
 zip-entry (w ∷ ws) (t ∷ order) zero l e = refl
 zip-entry (w ∷ ws) (t ∷ order) (suc i) l e = zip-entry ws order i (le-of-suc-le-suc l) (omega arith)
 
+-- an order value has at most 64 firings
+pub fires-few : (o : Order) → length (firesOf o) ≤ 64
+unfolding firesOf
+fires-few o = omega (arith, length-first (min (o .count) 64) 0 (o .fires), min-le-right (o .count) 64)
+
 -- ---- a run of the given waits and order
-module _ (memory : Memory) (order waits : List ℕ) (e : length waits ≡ length order) where
+module _ (memory : Memory) (order waits : List ℕ) (e : length waits ≡ length order) (few : length order ≤ 64) where
   pub timetable-firings : firingsOf (timetableRun memory order waits) ≡ zipFirings waits order
   unfolding firingsOf timetableRun
-  timetable-firings = first-pad (length order) 64 noFiring (zipFirings waits order) (length-zip waits order e)
+  timetable-firings = rw (min-eq-left few) (first-pad (length order) 64 noFiring (zipFirings waits order) (length-zip waits order e))
 
   pub timetable-order : orderOf (firingsOf (timetableRun memory order waits)) ≡ order
   timetable-order = ap orderOf timetable-firings ∙ order-zip waits order e
@@ -74,7 +78,7 @@ module _ (memory : Memory) (order waits : List ℕ) (e : length waits ≡ length
   -- nothing stands behind its firings
   pub timetable-clean : (transitions : ℕ) → runCard transitions .clean (timetableRun memory order waits) ≡ timetableRun memory order waits
   unfolding timetableRun
-  timetable-clean transitions = run-clean transitions (timetableRun memory order waits) (zipFirings waits order) (length-zip waits order e) refl
+  timetable-clean transitions = run-clean transitions (timetableRun memory order waits) (zipFirings waits order) (length-zip waits order e) few refl
 
 zip-accepted : (net : Net) (restarts : Restart) (order waits : List ℕ) → Timing net restarts 1 order waits
     → play net restarts 1 (zipFirings waits order) (startState net) 0 .checked ≡ Passed
@@ -82,11 +86,12 @@ zip-accepted net restarts order waits t =
     run-timing net restarts 1 (zipFirings waits order) .1 (rw (order-zip waits order (t .complete), waits-zip waits order (t .complete)) t)
 
 -- a timing in whole ticks makes an accepted run
-pub timetable-accepted : (net : Net) (restarts : Restart) (memory : Memory) (order waits : List ℕ) → Timing net restarts 1 order waits
+pub timetable-accepted : (net : Net) (restarts : Restart) (memory : Memory) (order waits : List ℕ) → length order ≤ 64 → Timing net restarts 1 order waits
     → replay net restarts (timetableRun memory order waits) .checked ≡ Passed
 unfolding replay timetableRun
-timetable-accepted net restarts memory order waits t =
-    ap (λ (fs : List Firing). play net restarts 1 fs (startState net) 0 .checked) (timetable-firings memory order waits (t .complete)) ∙ zip-accepted net restarts order waits t
+timetable-accepted net restarts memory order waits few t =
+    ap (λ (fs : List Firing). play net restarts 1 fs (startState net) 0 .checked) (timetable-firings memory order waits (t .complete) few)
+    ∙ zip-accepted net restarts order waits t
 
 -- ---- the rounded run
 module _ (r : Run) where
@@ -99,21 +104,20 @@ module _ (r : Run) where
   pub rounded-sizes : length (roundedWaits D (waitsOf fs)) ≡ length (orderOf fs)
   rounded-sizes = length-rounded D (waitsOf fs) ∙ length-waits fs ∙ sym (length-order fs)
 
-  pub length-firings : length fs ≡ r .count
-  unfolding firingsOf
-  length-firings = length-first (r .count) noFiring (r .firings)
-
-  pub count-rounded : length (zipFirings (roundedWaits D (waitsOf fs)) (orderOf fs)) ≡ r .count
-  count-rounded = length-zip _ _ rounded-sizes ∙ length-order fs ∙ length-firings
+  pub count-rounded : length (zipFirings (roundedWaits D (waitsOf fs)) (orderOf fs)) ≡ min (r .count) 64
+  count-rounded = length-zip _ _ rounded-sizes ∙ length-order fs ∙ length-firings r
 
   pub rounded-firings : firingsOf (roundedRun r) ≡ zipFirings (roundedWaits D (waitsOf fs)) (orderOf fs)
   unfolding firingsOf roundedRun
-  rounded-firings = first-pad (r .count) 64 noFiring (zipFirings (roundedWaits D (waitsOf fs)) (orderOf fs)) count-rounded
+  rounded-firings =
+      rw (min-eq-left (min-le-right (r .count) 64))
+      (first-pad (min (r .count) 64) 64 noFiring (zipFirings (roundedWaits D (waitsOf fs)) (orderOf fs)) count-rounded)
 
   -- nothing stands behind them
   pub rounded-clean : (transitions : ℕ) → runCard transitions .clean (roundedRun r) ≡ roundedRun r
   unfolding roundedRun
-  rounded-clean transitions = run-clean transitions (roundedRun r) (zipFirings (roundedWaits D (waitsOf fs)) (orderOf fs)) count-rounded refl
+  rounded-clean transitions = run-clean transitions (roundedRun r) (zipFirings (roundedWaits D (waitsOf fs)) (orderOf fs)) count-rounded
+      (min-le-right (r .count) 64) refl
 
   pub rounded-order : orderOf (firingsOf (roundedRun r)) ≡ orderOf fs
   rounded-order = ap orderOf rounded-firings ∙ order-zip _ _ rounded-sizes
@@ -185,7 +189,7 @@ rounded-fit D d s (w ∷ ws) h = (omega (arith, div-sum-le D d s w, h .0), round
 
 -- the card of the rounded run passes where the run's does
 pub rounded-checked : (transitions : ℕ) (r : Run) → runCard transitions .check r 1 ≡ Passed → runCard transitions .check (roundedRun r) 1 ≡ Passed
-unfolding roundedRun roundedWaits firingsOf
+unfolding roundedRun roundedWaits
 rounded-checked transitions r e =
     let f = run-in-ranges transitions r .0 e in
     let D = r .denominator in
@@ -194,7 +198,7 @@ rounded-checked transitions r e =
     run-in-ranges transitions (roundedRun r) .1 (record {
       some-parts = omega arith;
       few-parts = omega arith;
-      few = f .few;
+      few = min-le-right (r .count) 64;
       each =
           rw (rounded-firings r)
           (zip-fit transitions (roundedFrom D 0 (waitsOf fs)) (orderOf fs) (rounded-fit D d 0 (waitsOf fs) (waits-fit transitions fs (f .each)))
@@ -204,24 +208,24 @@ rounded-checked transitions r e =
 
 -- the card of a timetable passes where that of its order does and no wait is too long
 pub timetable-checked : (transitions : ℕ) (o : Order) (memory : Memory) (waits : List ℕ) → orderCard transitions .check o 1 ≡ Passed
-    → length waits ≡ o .count → ((i : ℕ) → i < length waits → getD waits i 0 ≤ 10000000)
+    → length waits ≡ length (firesOf o) → ((i : ℕ) → i < length waits → getD waits i 0 ≤ 10000000)
     → runCard transitions .check (timetableRun memory (firesOf o) waits) 1 ≡ Passed
-unfolding timetableRun firingsOf
+unfolding timetableRun
 timetable-checked transitions o memory waits e size h =
     let order = firesOf o in
     let f = order-in-ranges transitions o e in
-    let n : length order ≡ o .count = length-first (o .count) 0 (o .fires) in
+    let few = fires-few o in
     run-in-ranges transitions (timetableRun memory order waits) .1 (record {
       some-parts = omega arith;
       few-parts = omega arith;
-      few = omega (arith, f .0, n);
-      each = rw (timetable-firings memory order waits (size ∙ sym n)) (zip-fit transitions waits order (each-of (λ w. w ≤ 10000000) 0 waits h) (f .1));
+      few = few;
+      each = rw (timetable-firings memory order waits size few) (zip-fit transitions waits order (each-of (λ w. w ≤ 10000000) 0 waits h) (f .1));
       rest = omega arith;
     })
 
 -- a timetable of at most 64 firings on a net where no lower bound is over 1,000 ticks
 module _ (net : Net) (restarts : Restart) (order ws : List ℕ) (e : schedule net restarts order ≡ timed ws)
-    (h : (t : ℕ) → t < net .transitions → transitionAt net t .earliest ≤ 1000) (few : length order ≤ 64) where
+    (h : (t : ℕ) → t < arcsOf net .transitions → transitionAt net t .earliest ≤ 1000) (few : length order ≤ 64) where
   -- no instant is over 64,000 ticks
   pub scheduled-within : (i : ℕ) → instants ws i ≤ 64000
   scheduled-within i =
@@ -235,12 +239,11 @@ module _ (net : Net) (restarts : Restart) (order ws : List ℕ) (e : schedule ne
 
 -- the card of the timetable of an order passes where the order's does
 pub scheduled-checked : (net : Net) (restarts : Restart) (o : Order) (ws : List ℕ) → schedule net restarts (firesOf o) ≡ timed ws
-    → ((t : ℕ) → t < net .transitions → transitionAt net t .earliest ≤ 1000) → orderCard (net .transitions) .check o 1 ≡ Passed
+    → ((t : ℕ) → t < arcsOf net .transitions → transitionAt net t .earliest ≤ 1000) → orderCard (net .transitions) .check o 1 ≡ Passed
     → runCard (net .transitions) .check (timetableRun (o .memory) (firesOf o) ws) 1 ≡ Passed
 scheduled-checked net restarts o ws e h p =
-    let size = length-first (o .count) 0 (o .fires) in
-    timetable-checked (net .transitions) o (o .memory) ws p (scheduled-timing net restarts (firesOf o) ws e .complete ∙ size)
-    (scheduled-short net restarts (firesOf o) ws e h (omega (arith, order-in-ranges (net .transitions) o p .0)))
+    timetable-checked (net .transitions) o (o .memory) ws p (scheduled-timing net restarts (firesOf o) ws e .complete)
+    (scheduled-short net restarts (firesOf o) ws e h (fires-few o))
 
 -- ---- "Each clock and each instant moves by less than one tick": in parts, of which a tick has D
 instants-up : (ws : List ℕ) (o i : ℕ) → o ≤ i → instants ws o ≤ instants ws i
@@ -258,4 +261,5 @@ module _ (D : ℕ) (d : 0 < D) (waits : List ℕ) where
   pub clocks-near : (o i : ℕ) → o ≤ i
       → (D * (instants (roundedWaits D waits) i - instants (roundedWaits D waits) o) < instants waits i - instants waits o + D)
       × (instants waits i - instants waits o < D * (instants (roundedWaits D waits) i - instants (roundedWaits D waits) o) + D)
-  clocks-near o i h = rw (rounded-instants D d waits i, rounded-instants D d waits o) (difference-near D d (instants waits o) (instants waits i) (instants-up waits o i h))
+  clocks-near o i h = rw (rounded-instants D d waits i, rounded-instants D d waits o)
+      (difference-near D d (instants waits o) (instants waits i) (instants-up waits o i h))

@@ -1,10 +1,10 @@
--- Rounding: instants at D ticks to the unit may be cut down to whole units, since x + D·a ≤ y gives x/D + a ≤ y/D, and so for upper bounds.
+-- Rounding: instants in parts of which D make a tick may be cut down to whole ticks, since x + D·a ≤ y gives x/D + a ≤ y/D, and so for upper bounds.
 -- Scaling: whole units are instants at any D.
 use Prim.Native.Nat.{ℕ, _*_, _/_, _<_}
 use mathlib.Core.Path.{ap, _∙_}
 use native.Mathlib.Nat.{zero-div, mul-zero, mul-le-mul-left}
 use native.Mathlib.Omega.{arith}
-use Rattle.laws.specs.Div.{div-le, div-add-le, div-le-add}
+use Rattle.laws.specs.Division.{div-le, div-add-le, div-le-add}
 use Rattle.timing.specs.Timing.{Upper, atMost, below, unbounded, Win, Within, Meets, Feasible, Closed, AllClosed}
 
 module _ (D : ℕ) (d : 0 < D) where

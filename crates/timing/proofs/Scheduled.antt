@@ -8,24 +8,24 @@ use mathlib.Core.Path.{_≡_, refl, sym, ap, subst, _∙_}
 use mathlib.Core.Logic.{_↔_, ⊎-elim}
 use mathlib.Core.Bool.{Bool, true, false, cond}
 use mathlib.Core.List.{List, [], _∷_}
-use mathlib.Core.Option.{Option, none, some}
 use lib.ListN.{length}
-use Rattle.laws.specs.Sum.{le-or-lt}
+use Rattle.laws.specs.Sums.{le-or-lt}
 use Rattle.reply.specs.declared.Refusal.{Refusal}
 use Rattle.reply.specs.declared.Refusal.the-variants.{NotEnabled, TooManyTokens, Untimable}
 use Rattle.reply.specs.declared.Checked.{Checked}
 use Rattle.reply.specs.declared.Checked.the-variants.{Passed, Refused}
 use Rattle.form.specs.Form.{also}
 use Rattle.net.specs.declared.Net.{Net}
-use Rattle.firing.specs.Semantics.{Restart, transitionAt, startMarking, enabled, after}
-use Rattle.firing.specs.Replay.{bounded}
-use Rattle.timing.specs.Timing.{Win, windows, Wellformed}
-use Rattle.timing.specs.Windows.{tokensJudged, tokens, windowsOf, instants, Timing, Timable}
-use Rattle.timing.specs.Solve.{instantAt, solve, Verdict, metBy, failsAt}
-use Rattle.timing.specs.Claims.{Possible, LeastInstants, Answers, FirstFail, Judges, FirstUntimable}
-use Rattle.timing.specs.Schedule.{earliestOf, waitsBetween, timed, unschedulable, scheduledBy, schedule}
+use Rattle.firing.specs.Semantics.{arcsOf, Restart, transitionAt, startMarking, enabled, after}
+use Rattle.firing.specs.Replay.{limited}
+use Rattle.firing.specs.Tokens.{tokensJudged, tokens}
+use Rattle.timing.specs.Timing.{Win}
+use Rattle.timing.specs.Windows.{windows, windowsOf, instants, Timing, Timable}
+use Rattle.timing.specs.Solve.{instantAt, Verdict, metBy, failsAt}
+use Rattle.timing.specs.Claims.{Possible, LeastInstants, FirstFail, Judges, FirstUntimable}
+use Rattle.timing.specs.Schedule.{verdictOf, waitsBetween, timed, unschedulable, scheduledBy, schedule}
 use Rattle.timing.proofs.Feasible.{restrict, feasible-same}
-use Rattle.timing.proofs.Solved.{solve-right, least-small, prefixes-right, judge-unique}
+use Rattle.timing.proofs.Solved.{least-small, possible-least, prefixes-right, judge-unique}
 use Rattle.timing.proofs.Every.{least-every, first-every}
 use Rattle.timing.proofs.Order.{windows-wellformed, windows-closed, windows-lows}
 use Rattle.timing.proofs.Instants.{length-between, instants-list, instants-past}
@@ -38,22 +38,15 @@ not-timed e = let z : _≡_ {A = ℕ} 0 1 = cc in omega arith
 tokens-other : (net : Net) (order m : List ℕ) (n k : ℕ) → tokens net order m n ≡ Refused (Untimable k) → ⊥
 unfolding tokens tokensJudged
 tokens-other net [] m n k = λ e. let z : _≡_ {A = ℕ} 0 1 = cc in omega arith
-tokens-other net (t ∷ order) m n k = go (enabled net m t) (bounded net (after net m t)) (tokens-other net order (after net m t) (n + 1) k)
+tokens-other net (t ∷ order) m n k = go (enabled (arcsOf net) m t) (limited (arcsOf net) m t) (tokens-other net order (after (arcsOf net) m t) (n + 1) k)
   where
-    go : (a b : Bool) → (tokens net order (after net m t) (n + 1) ≡ Refused (Untimable k) → ⊥)
-        → also (cond a (cond b Passed (Refused (TooManyTokens (n + 1)))) (Refused (NotEnabled (n + 1)))) (tokens net order (after net m t) (n + 1)) ≡ Refused (Untimable k)
+    go : (a b : Bool) → (tokens net order (after (arcsOf net) m t) (n + 1) ≡ Refused (Untimable k) → ⊥)
+        → also (cond a (cond b Passed (Refused (TooManyTokens (n + 1)))) (Refused (NotEnabled (n + 1))))
+        (tokens net order (after (arcsOf net) m t) (n + 1)) ≡ Refused (Untimable k)
         → ⊥
     go true true ih e = ih e
     go true false ih e = let z : _≡_ {A = ℕ} 0 1 = cc in omega arith
     go false b ih e = let z : _≡_ {A = ℕ} 0 1 = cc in omega arith
-
--- instants that meet the first n windows, made least
-pub possible-least : (W : ℕ → Win) (n : ℕ) → Wellformed W n → Possible 1 W n → (x : List ℕ) × LeastInstants 1 W n x
-possible-least W n wf p = go (solve 1 W n) (solve-right 1 W n wf)
-  where
-    go : (a : Option (List ℕ)) → Answers 1 W n a → (x : List ℕ) × LeastInstants 1 W n x
-    go none h = absurd (h (p .0) (p .1))
-    go (some x) h = (x, h)
 
 module _ (net : Net) (restarts : Restart) (order : List ℕ) where
   -- the windows of the order, and how many
@@ -67,17 +60,17 @@ module _ (net : Net) (restarts : Restart) (order : List ℕ) where
   unfolding schedule
   schedule-refused r e = rw e refl
 
-  pub schedule-passed : tokens net order (startMarking net) 0 ≡ Passed → schedule net restarts order ≡ scheduledBy (earliestOf net restarts order)
+  pub schedule-passed : tokens net order (startMarking net) 0 ≡ Passed → schedule net restarts order ≡ scheduledBy (verdictOf net restarts order)
   unfolding schedule
   schedule-passed e = rw e refl
 
-  earliest-right : Judges 1 W n (earliestOf net restarts order)
-  unfolding earliestOf
-  earliest-right = prefixes-right 1 W n (windows-wellformed net restarts order)
+  pub verdict-right : Judges 1 W n (verdictOf net restarts order)
+  unfolding verdictOf
+  verdict-right = prefixes-right 1 W n (windows-wellformed net restarts order)
 
   -- whatever judges the windows rightly finds the same verdict
-  pub earliest-unique : (v : Verdict) → Judges 1 W n v → earliestOf net restarts order ≡ v
-  earliest-unique v j = judge-unique 1 W n (earliestOf net restarts order) v earliest-right j
+  pub verdict-unique : (v : Verdict) → Judges 1 W n v → verdictOf net restarts order ≡ v
+  verdict-unique v j = judge-unique 1 W n (verdictOf net restarts order) v verdict-right j
 
   module _ (ws : List ℕ) (e : schedule net restarts order ≡ timed ws) where
     timed-allowed : tokens net order (startMarking net) 0 ≡ Passed
@@ -89,7 +82,7 @@ module _ (net : Net) (restarts : Restart) (order : List ℕ) where
 
     -- the waits are those between the least instants
     timed-least : (x : List ℕ) × LeastInstants 1 W n x × (waitsBetween x ≡ ws)
-    timed-least = go (earliestOf net restarts order) earliest-right (sym (schedule-passed timed-allowed) ∙ e)
+    timed-least = go (verdictOf net restarts order) verdict-right (sym (schedule-passed timed-allowed) ∙ e)
       where
         go : (v : Verdict) → Judges 1 W n v → scheduledBy v ≡ timed ws → (x : List ℕ) × LeastInstants 1 W n x × (waitsBetween x ≡ ws)
         go (metBy x) j p = (x, j, cc)
@@ -118,7 +111,7 @@ module _ (net : Net) (restarts : Restart) (order : List ℕ) where
         rw (timed-instants i l) (least-every W n (windows-closed net restarts order) x least D d (instants vs) (t .meets) i)
 
     -- no instant i is over K·i where no lower bound is over K
-    pub scheduled-early : (K : ℕ) → ((t : ℕ) → t < net .transitions → transitionAt net t .earliest ≤ K) → (i : ℕ) → instants ws i ≤ K * i
+    pub scheduled-early : (K : ℕ) → ((t : ℕ) → t < arcsOf net .transitions → transitionAt net t .earliest ≤ K) → (i : ℕ) → instants ws i ≤ K * i
     scheduled-early K h i = ⊎-elim (λ l. within i l) (λ l. later l) (le-or-lt i n)
       where
         within : (j : ℕ) → j ≤ n → instants ws j ≤ K * j
@@ -137,10 +130,11 @@ module _ (net : Net) (restarts : Restart) (order : List ℕ) where
     pub scheduled-exactly : ((ws : List ℕ) × (schedule net restarts order ≡ timed ws)) ↔ ((D : ℕ) × (0 < D) × Timable net restarts D order)
     scheduled-exactly = (
       λ p. (1, omega arith, (p .0, scheduled-timing (p .0) (p .1))),
-      λ p. go (timable-possible net restarts order 1 e .0 (ticks-exactly net restarts order (p .0) (p .1) .1 (p .2))) (earliestOf net restarts order) refl earliest-right,
+      λ p. go (timable-possible net restarts order 1 e .0 (ticks-exactly net restarts order (p .0) (p .1) .1 (p .2))) (verdictOf net restarts order)
+          refl verdict-right,
     )
       where
-        go : Possible 1 W n → (v : Verdict) → earliestOf net restarts order ≡ v → Judges 1 W n v → (ws : List ℕ) × (schedule net restarts order ≡ timed ws)
+        go : Possible 1 W n → (v : Verdict) → verdictOf net restarts order ≡ v → Judges 1 W n v → (ws : List ℕ) × (schedule net restarts order ≡ timed ws)
         go p (metBy x) q j = (waitsBetween x, schedule-passed e ∙ ap scheduledBy q)
         go p (failsAt k) q j = absurd (j .fails-at (p .0) (restrict k (j .reached) (p .1)))
 
@@ -169,8 +163,8 @@ module _ (net : Net) (restarts : Restart) (order : List ℕ) where
     -- the order is refused as untimable at k exactly when k is the first firing up to which there is no timing
     pub untimable-exactly : (k : ℕ) → (schedule net restarts order ≡ unschedulable (Untimable k)) ↔ FirstUntimable net restarts order k
     untimable-exactly k = (
-      λ p. go (earliestOf net restarts order) earliest-right (sym (schedule-passed e) ∙ p),
-      λ f. schedule-passed e ∙ ap scheduledBy (earliest-unique (failsAt k) (first-fail k f)),
+      λ p. go (verdictOf net restarts order) verdict-right (sym (schedule-passed e) ∙ p),
+      λ f. schedule-passed e ∙ ap scheduledBy (verdict-unique (failsAt k) (first-fail k f)),
     )
       where
         go : (v : Verdict) → Judges 1 W n v → scheduledBy v ≡ unschedulable (Untimable k) → FirstUntimable net restarts order k
@@ -181,10 +175,10 @@ module _ (net : Net) (restarts : Restart) (order : List ℕ) where
     pub untimable-none : ((k : ℕ) × (schedule net restarts order ≡ unschedulable (Untimable k))) ↔ ((D : ℕ) → 0 < D → Timable net restarts D order → ⊥)
     untimable-none = (
       λ p D d t. not-timed (sym (p .1) ∙ scheduled-exactly .1 (D, d, t) .1),
-      λ h. go h (earliestOf net restarts order) refl,
+      λ h. go h (verdictOf net restarts order) refl,
     )
       where
-        go : ((D : ℕ) → 0 < D → Timable net restarts D order → ⊥) → (v : Verdict) → earliestOf net restarts order ≡ v
+        go : ((D : ℕ) → 0 < D → Timable net restarts D order → ⊥) → (v : Verdict) → verdictOf net restarts order ≡ v
             → (k : ℕ) × (schedule net restarts order ≡ unschedulable (Untimable k))
         go h (metBy x) q = absurd (h 1 (omega arith) (waitsBetween x, scheduled-timing (waitsBetween x) (schedule-passed e ∙ ap scheduledBy q)))
         go h (failsAt k) q = (k, schedule-passed e ∙ ap scheduledBy q)

@@ -10,10 +10,10 @@ use lib.Seq.{ext-getD}
 use native.Mathlib.Nat.{le-refl, le-trans, le-antisymm}
 use native.Mathlib.Omega.{arith}
 use Rattle.laws.specs.Slots.{getD-padded}
-use Rattle.laws.specs.Sum.{le-or-lt}
-use Rattle.timing.specs.Timing.{Win, Feasible, Wellformed, LowsLe, capped}
+use Rattle.laws.specs.Sums.{le-or-lt}
+use Rattle.timing.specs.Timing.{Win, Wellformed, LowsLe, capped}
 use Rattle.timing.specs.Solve.{edges, instantAt, climb, solve, Verdict, metBy, failsAt, verdictAt, nextPrefix, solvePrefixes}
-use Rattle.timing.specs.Claims.{LeastInstants, Answers, FirstFail, Judges}
+use Rattle.timing.specs.Claims.{Possible, LeastInstants, Answers, FirstFail, Judges}
 use Rattle.timing.proofs.Feasible.{restrict, feasible-windows}
 use Rattle.timing.proofs.Cap.{cap, capped-le}
 use Rattle.timing.proofs.Answer.{Right, climb-right}
@@ -40,27 +40,17 @@ module _ (D : ℕ) (W : ℕ → Win) where
   pub solve-right : (n : ℕ) → Wellformed W n → Answers D W n (solve D W n)
   solve-right n wf =
       let fits = edges-fit D W n wf in
-      answer-of n (solve D W n) (climb-right n (edges D W n []) fits n (replicate (suc n) 0) (start-zeros n) (near-start n (edges D W n []) (replicate (suc n) 0)))
+      answer-of n (solve D W n) (climb-right n (edges D W n []) fits n (replicate (suc n) 0) (start-zeros n)
+      (near-start n (edges D W n []) (replicate (suc n) 0)))
 
   pub least-unique : (n : ℕ) (x y : List ℕ) → LeastInstants D W n x → LeastInstants D W n y → x ≡ y
   least-unique n x y p q =
       ext-getD 0 x y (p .size ∙ sym (q .size)) (λ i l. le-antisymm (p .least (instantAt y) (q .feasible) i) (q .least (instantAt x) (p .feasible) i))
 
-  pub answer-unique : (n : ℕ) (a b : Option (List ℕ)) → Answers D W n a → Answers D W n b → a ≡ b
-  answer-unique n none none p q = refl
-  answer-unique n none (some y) p q = absurd (p (instantAt y) (q .feasible))
-  answer-unique n (some x) none p q = absurd (q (instantAt x) (p .feasible))
-  answer-unique n (some x) (some y) p q = ap some (least-unique n x y p q)
-
   -- the least instants are small: no instant i is over K·i
   pub least-small : (n : ℕ) → Wellformed W n → (K : ℕ) → LowsLe K D W n → (x : List ℕ) → LeastInstants D W n x → (i : ℕ) → instantAt x i ≤ K * i
   least-small n wf K le x l i =
       le-trans (l .least (capped K (instantAt x)) (cap K (instantAt x) D W n wf le (l .feasible)) i) (capped-le K (instantAt x) i)
-
-  -- what is at most every solution and over K·i shows that there is none
-  pub over-none : (n : ℕ) → Wellformed W n → (K : ℕ) → LowsLe K D W n → (x : List ℕ) → ((S : ℕ → ℕ) → Feasible D W n S → (i : ℕ) → instantAt x i ≤ S i)
-      → (i : ℕ) → K * i < instantAt x i → (S : ℕ → ℕ) → Feasible D W n S → ⊥
-  over-none n wf K le x low i h S f = omega (arith, low (capped K S) (cap K S D W n wf le f) i, capped-le K S i)
 
   -- ---- prefix by prefix
 
@@ -101,7 +91,12 @@ module _ (D : ℕ) (W : ℕ → Win) where
   prefixes-judged : (n : ℕ) → Wellformed W n → Judged n (solvePrefixes D W n)
   unfolding Judged
   prefixes-judged zero wf =
-      let b : Best 0 [] (0 ∷ []) = record { size = refl; starts = refl; least = record { sat = tt; under = λ S s i. omega (arith, getD-padded {A = ℕ} [] 1 0 i) } } in
+      let b : Best 0 [] (0 ∷ []) = record {
+        size = refl;
+        starts = refl;
+        least =
+            record { sat = tt; under = λ S s i. omega (arith, getD-padded {A = ℕ} [] 1 0 i) };
+      } in
       (b, λ j l. let e : 0 ≡ j = omega arith in (0 ∷ [], subst (λ (k : ℕ). LeastInstants D W k (0 ∷ [])) e (best-least 0 (0 ∷ []) b)))
   prefixes-judged (suc n) wf = next-right n wf (solvePrefixes D W n) (prefixes-judged n (λ i l. wf i (omega arith)))
 
@@ -139,3 +134,11 @@ module _ (D : ℕ) {W V′ : ℕ → Win} where
         fails-at = λ S f. p .fails-at S (feasible-windows D k (λ i l. sym (e i (le-trans l (p .reached)))) f);
         met = λ j l. let (x, t) = p .met j l in (x, least-windows (λ i h. e i (omega (arith, p .reached))) t);
       }
+
+-- instants that meet the first n windows, made least
+pub possible-least : (W : ℕ → Win) (n : ℕ) → Wellformed W n → Possible 1 W n → (x : List ℕ) × LeastInstants 1 W n x
+possible-least W n wf p = go (solve 1 W n) (solve-right 1 W n wf)
+  where
+    go : (a : Option (List ℕ)) → Answers 1 W n a → (x : List ℕ) × LeastInstants 1 W n x
+    go none h = absurd (h (p .0) (p .1))
+    go (some x) h = (x, h)

@@ -1,11 +1,11 @@
 -- Open upper bounds: instants at any D are carried to any denominator over n. The whole part stays, and the rest becomes its rank among the rests,
--- which keeps every strict and every weak order between them.
+-- which keeps every strict and every weak order between them. No window of a net has such a bound yet: this waits for intervals whose upper end is excluded.
 use Prim.Native.Nat.{ℕ, suc, _+_, _*_, _/_, _%_, _≤_, _<_}
 use mathlib.Core.Path.{_≡_, ap, _∙_}
 use mathlib.Core.Logic.{_⊎_, inl, inr, ⊎-elim}
 use native.Mathlib.Nat.{div-add-mod, mod-lt, zero-mod, zero-div, mul-le-mul-left, le-refl}
 use native.Mathlib.Omega.{arith}
-use Rattle.laws.specs.Sum.{le-or-lt, sum, sum-le, sum-zero, sum-not-all, sum-less, less, less-le, less-none, less-one, less-mono}
+use Rattle.laws.specs.Sums.{le-or-lt, sum, sum-le, sum-zero, sum-not-all, sum-less, less, less-le, less-none, less-one, less-mono}
 use Rattle.timing.specs.Timing.{Upper, atMost, below, unbounded, Win, Within, Feasible, Wellformed}
 
 module _ (D : ℕ) (d : 0 < D) (S : ℕ → ℕ) (n : ℕ) where
@@ -47,7 +47,8 @@ module _ (D : ℕ) (d : 0 < D) (S : ℕ → ℕ) (n : ℕ) where
         (λ (l : suc (S u / D + p) ≤ S v / D + q). inl l)
         (λ (l : S v / D + q < suc (S u / D + p)).
         let e : S u / D + p ≡ S v / D + q =
-        ⊎-elim (λ (m : suc (S v / D + q) ≤ S u / D + p). absurd (omega (arith, mul-le-mul-left D m))) (λ m. omega arith) (le-or-lt (suc (S v / D + q)) (S u / D + p)) in
+        ⊎-elim (λ (m : suc (S v / D + q) ≤ S u / D + p). absurd (omega (arith, mul-le-mul-left D m))) (λ m. omega arith)
+        (le-or-lt (suc (S v / D + q)) (S u / D + p)) in
         inr (e, omega (arith, ap (λ (k : ℕ). D * k) e)))
         (le-or-lt (suc (S u / D + p)) (S v / D + q))
 

@@ -1,19 +1,21 @@
 -- Timings of whole orders: a run is accepted exactly when its waits are a timing of its order; a timing in whole ticks exists exactly when one in parts
 -- does; and the rounded waits of a timing are a timing in whole ticks. For any restart rule and orders of any length.
 use Prim.Native.Nat.{ℕ, suc, _/_, _≤_, _<_}
-use mathlib.Core.Path.{_≡_, sym, subst, subst⁻¹, _∙_}
+use mathlib.Core.Path.{_≡_, ap, sym, subst, subst⁻¹, _∙_}
 use mathlib.Core.Logic.{_↔_}
 use mathlib.Core.List.{List}
 use lib.ListN.{length, take}
 use lib.Seq.{length-take-le, getD-take}
-use Rattle.laws.specs.Tabled.{tabled, length-tabled}
+use Rattle.laws.specs.Tables.{tabled, length-tabled}
 use Rattle.reply.specs.declared.Checked.the-variants.{Passed}
 use Rattle.net.specs.declared.Net.{Net}
 use Rattle.run.specs.declared.Firing.{Firing}
 use Rattle.firing.specs.Semantics.{Restart, startMarking}
 use Rattle.firing.specs.Replay.{startState, play}
-use Rattle.timing.specs.Timing.{noWin, windows, Feasible}
-use Rattle.timing.specs.Windows.{tokens, windowsFrom, windowsOf, orderOf, waitsOf, instants, Timing, Timable}
+use Rattle.run.specs.Run.{orderOf, waitsOf}
+use Rattle.firing.specs.Tokens.{tokens}
+use Rattle.timing.specs.Timing.{Feasible}
+use Rattle.timing.specs.Windows.{winOf, noWindow, windows, windowsFrom, windowsOf, instants, Timing, Timable}
 use Rattle.timing.specs.Claims.{Possible}
 use Rattle.timing.specs.Schedule.{waitsBetween, roundedWaits}
 use Rattle.timing.proofs.Meet.{length-order, length-waits, accepted-windows}
@@ -88,7 +90,8 @@ module _ (net : Net) (restarts : Restart) (order : List ℕ) where
 module _ (net : Net) (restarts : Restart) (order : List ℕ) (e : tokens net order (startMarking net) 0 ≡ Passed) (k : ℕ) (l : k ≤ length order) where
   prefix-window : (i : ℕ) → i < k → windows (windowsOf net restarts (take k order)) i ≡ windows (windowsOf net restarts order) i
   unfolding windowsOf
-  prefix-window i b = rw (windows-prefix net restarts k order (startState net)) (getD-take k (windowsFrom net restarts order (startState net)) i noWin b)
+  prefix-window i b = rw (windows-prefix net restarts k order (startState net))
+      (ap winOf (getD-take k (windowsFrom net restarts order (startState net)) i noWindow b))
 
   pub prefix-possible : (D : ℕ) → Timable net restarts D (take k order) ↔ Possible D (windows (windowsOf net restarts order)) k
   prefix-possible D =

@@ -10,11 +10,11 @@ use Rattle.timing.specs.Timing.{Win, Feasible}
 use Rattle.timing.specs.Windows.{Timing, Timable}
 use Rattle.timing.specs.Solve.{instantAt, Verdict, metBy, failsAt}
 
--- some instants, at D ticks to the unit, meet the first n windows
+-- some instants, at D parts to the tick, meet the first n windows
 abbrev pub Possible : ℕ → (ℕ → Win) → ℕ → Type 0
 Possible D W n = (S : ℕ → ℕ) × Feasible D W n S
 
--- x holds the least instants that meet the first n windows, at D ticks to the unit
+-- x holds the least instants that meet the first n windows, at D parts to the tick
 pub record LeastInstants (D : ℕ) (W : ℕ → Win) (n : ℕ) (x : List ℕ) : Type 0 where
   pub size : length x ≡ suc n
   pub feasible : Feasible D W n (instantAt x)

@@ -1,8 +1,7 @@
-pub mod Timing
-pub mod Windows
+pub mod Claims
+pub mod Rounding
+pub mod Schedule
 pub mod Solve
 pub mod Starred
-pub mod Claims
-pub mod Schedule
-pub mod Rounding
-pub mod Collect
+pub mod Timing
+pub mod Windows

@@ -1,16 +1,13 @@
 -- Document 01, "Windows and instants": the run that rounding makes of a run, and the run of a timetable, both in whole ticks.
-use Prim.Native.Nat.{ℕ, _+_, _-_, _/_}
+use Prim.Native.Nat.{ℕ, _+_, _-_, _/_, min}
 use mathlib.Core.List.{List, [], _∷_}
 use lib.ListN.{length}
 use Rattle.laws.specs.Slots.{padTo}
-use Rattle.net.specs.declared.Net.{Net}
 use Rattle.run.specs.declared.Memory.{Memory}
 use Rattle.run.specs.declared.Firing.{Firing}
 use Rattle.run.specs.declared.Run.{Run}
-use Rattle.run.specs.Run.{noFiring}
-use Rattle.firing.specs.Semantics.{after}
-use Rattle.firing.specs.Replay.{firingsOf}
-use Rattle.timing.specs.Windows.{orderOf, waitsOf, instants}
+use Rattle.run.specs.Run.{noFiring, firingsOf, orderOf, waitsOf}
+use Rattle.timing.specs.Windows.{instants}
 use Rattle.timing.specs.Schedule.{roundedWaits}
 
 -- the firings of an order after waits
@@ -32,16 +29,18 @@ roundedRun r =
     record {
       memory = r .memory;
       denominator = 1;
-      count = r .count;
+      count = min (r .count) 64;
       firings = padTo 64 noFiring (zipFirings (roundedWaits (r .denominator) (waitsOf (firingsOf r))) (orderOf (firingsOf r)));
       rest = (lastInstant r + r .rest) / r .denominator - lastInstant r / r .denominator;
     }
 
 -- "A timetable is the same kind of card, with the order's memory and firings and with `rest=0`"
 unfoldable pub timetableRun : Memory → List ℕ → List ℕ → Run
-timetableRun memory order waits = record { memory = memory; denominator = 1; count = length order; firings = padTo 64 noFiring (zipFirings waits order); rest = 0 }
-
--- the marking after the firings of an order, from a marking
-unfoldable pub markingAfter : Net → List ℕ → List ℕ → List ℕ
-markingAfter net m [] = m
-markingAfter net m (t ∷ order) = markingAfter net (after net m t) order
+timetableRun memory order waits = record {
+  memory = memory;
+  denominator = 1;
+  count = length order;
+  firings = padTo 64 noFiring
+      (zipFirings waits order);
+  rest = 0;
+}

@@ -8,13 +8,13 @@ use Rattle.reply.specs.declared.Checked.{Checked}
 use Rattle.reply.specs.declared.Checked.the-variants.{Passed, Refused}
 use Rattle.net.specs.declared.Net.{Net}
 use Rattle.firing.specs.Semantics.{Restart, startMarking}
-use Rattle.timing.specs.Timing.{windows}
-use Rattle.timing.specs.Windows.{tokens, windowsOf}
+use Rattle.firing.specs.Tokens.{tokens}
+use Rattle.timing.specs.Windows.{windows, windowsOf}
 use Rattle.timing.specs.Solve.{Verdict, metBy, failsAt, solvePrefixes}
 
 -- the least instants S0, S1, .. in whole ticks that meet the windows of an order, or the first firing up to which there are none
-unfoldable pub earliestOf : Net → Restart → List ℕ → Verdict
-earliestOf net restarts order =
+unfoldable pub verdictOf : Net → Restart → List ℕ → Verdict
+verdictOf net restarts order =
     let ws = windowsOf net restarts order in
     solvePrefixes 1 (windows ws) (length order)
 
@@ -45,7 +45,7 @@ scheduledAfter (Refused r) v = unschedulable r
 
 -- "For an order, 5 and 6 through all firings, then 8": the waits of the earliest instants of an order
 unfoldable pub schedule : Net → Restart → List ℕ → Scheduled
-schedule net restarts order = let v = earliestOf net restarts order in scheduledAfter (tokens net order (startMarking net) 0) v
+schedule net restarts order = let v = verdictOf net restarts order in scheduledAfter (tokens net order (startMarking net) 0) v
 
 -- "wait i becomes the whole part of Si/D less that of S(i−1)/D": the waits from instant s on, in parts at denominator D
 unfoldable pub roundedFrom : ℕ → ℕ → List ℕ → List ℕ

@@ -12,48 +12,42 @@ use Rattle.reply.specs.declared.Checked.the-variants.{Passed, Refused}
 use Rattle.reply.specs.Refusal.{numberOf, positionOf}
 use Rattle.net.specs.declared.Latest.{Latest}
 use Rattle.net.specs.declared.Latest.the-variants.{Unbounded, Ticks}
-use Rattle.net.specs.declared.Transition.{Transition}
 use Rattle.net.specs.declared.Net.{Net}
+use Rattle.net.specs.Net.{Row, noRow, takeOf, giveOf, toNet}
 use Rattle.run.specs.declared.Memory.{Memory}
 use Rattle.run.specs.declared.Memory.the-variants.{Intermediate, Atomic}
 use Rattle.run.specs.declared.Firing.{Firing}
-use Rattle.laws.specs.All.{allBelow}
-use Rattle.laws.specs.Slots.{firstOf}
-use Rattle.firing.specs.Semantics.{startMarking, enabled, taken, after, intermediate, atomic}
-use Rattle.firing.specs.Replay.{ruleOf, startState, waited, clockOf, inInterval, bounded, fired, judged, play}
-use Rattle.timing.specs.Windows.{tokensJudged, tokens, windowsFrom, windowsOf}
-use Rattle.timing.specs.Schedule.{Scheduled, timed, unschedulable, earliestOf, waitsFrom, waitsBetween, schedule, roundedFrom, roundedWaits}
+use Rattle.laws.specs.Tests.{allBelow}
+use Rattle.laws.specs.Arrays.{filled}
+use Rattle.laws.specs.Slots.{padTo}
+use Rattle.firing.specs.Semantics.{arcsOf, startMarking, enough, taken, after, ruleOf}
+use Rattle.firing.specs.Replay.{startState, waited, clockOf, timely, limited, judgedBy, renewed, fired, play}
+use Rattle.firing.specs.Tokens.{tokensJudged, tokens}
+use Rattle.timing.specs.Windows.{windowsFrom, windowsOf}
+use Rattle.timing.specs.Schedule.{Scheduled, timed, unschedulable, verdictOf, waitsFrom, waitsBetween, schedule, roundedFrom, roundedWaits}
 
 -- ---- the nets
-transitionOf : ℕ → Latest → List ℕ → List ℕ → Transition
-transitionOf earliest latest take give = record { earliest = earliest; latest = latest; take = take; give = give }
+rowOf : ℕ → Latest → List ℕ → List ℕ → Row
+rowOf earliest latest take give = record { interval = record { earliest = earliest; latest = latest }; take = padTo 16 0 take; give = padTo 16 0 give }
+
+netOf : ℕ → ℕ → List ℕ → List Row → Net
+netOf places transitions start rs = toNet (places, (transitions, (padTo 16 0 start, padTo 32 noRow rs)))
 
 -- net A: the motor pulse and the closing of the batch
 netA : Net
-netA =
-    record {
-      places = 2;
-      transitions = 2;
-      start = 1 ∷ 1 ∷ [];
-      table = transitionOf 1 (Ticks 2) (1 ∷ 0 ∷ []) (1 ∷ 0 ∷ []) ∷ transitionOf 3 (Ticks 4) (1 ∷ 1 ∷ []) (0 ∷ 0 ∷ []) ∷ [];
-    }
+netA = netOf 2 2 (1 ∷ 1 ∷ []) (rowOf 1 (Ticks 2) (1 ∷ 0 ∷ []) (1 ∷ 0 ∷ []) ∷ rowOf 3 (Ticks 4) (1 ∷ 1 ∷ []) (0 ∷ 0 ∷ []) ∷ [])
 
 netB : Net
 netB =
-    record {
-      places = 3;
-      transitions = 3;
-      start = 1 ∷ 0 ∷ 1 ∷ [];
-      table =
-          transitionOf 0 Unbounded (1 ∷ 0 ∷ 0 ∷ []) (0 ∷ 1 ∷ 0 ∷ [])
-          ∷ transitionOf 5 (Ticks 5) (0 ∷ 0 ∷ 1 ∷ []) (0 ∷ 0 ∷ 0 ∷ [])
-          ∷ transitionOf 0 (Ticks 2) (0 ∷ 1 ∷ 0 ∷ []) (0 ∷ 0 ∷ 0 ∷ [])
-          ∷ [];
-    }
+    netOf 3 3 (1 ∷ 0 ∷ 1 ∷ [])
+    (rowOf 0 Unbounded (1 ∷ 0 ∷ 0 ∷ []) (0 ∷ 1 ∷ 0 ∷ [])
+    ∷ rowOf 5 (Ticks 5) (0 ∷ 0 ∷ 1 ∷ []) (0 ∷ 0 ∷ 0 ∷ [])
+    ∷ rowOf 0 (Ticks 2) (0 ∷ 1 ∷ 0 ∷ []) (0 ∷ 0 ∷ 0 ∷ [])
+    ∷ [])
 
 -- one transition, 0 to inf, taking nothing and giving 255 to an empty place
 giver : Net
-giver = record { places = 1; transitions = 1; start = 0 ∷ []; table = transitionOf 0 Unbounded (0 ∷ []) (255 ∷ []) ∷ [] }
+giver = netOf 1 1 (0 ∷ []) (rowOf 0 Unbounded (0 ∷ []) (255 ∷ []) ∷ [])
 
 -- ---- what a case claims
 pub data Claim : Type 0 where
@@ -99,16 +93,16 @@ isUntimed : Refusal → Scheduled → Bool
 isUntimed q (timed ws) = false
 isUntimed q (unschedulable r) = sameRefusal r q
 
-holds : Claim → Bool
-holds (accepts net memory D fs) = isPassed (play net (ruleOf net memory) D fs (startState net) 0 .checked)
-holds (refuses net memory D fs q) = isRefused q (play net (ruleOf net memory) D fs (startState net) 0 .checked)
-holds (timetable net memory order instants) = isTimed instants (schedule net (ruleOf net memory) order)
-holds (noTimetable net memory order q) = isUntimed q (schedule net (ruleOf net memory) order)
-holds (rounds D waits rounded) = sameNumbers (roundedWaits D waits) rounded
+claimHolds : Claim → Bool
+claimHolds (accepts net memory D fs) = isPassed (play net (ruleOf (arcsOf net) memory) D fs (startState net) 0 .checked)
+claimHolds (refuses net memory D fs q) = isRefused q (play net (ruleOf (arcsOf net) memory) D fs (startState net) 0 .checked)
+claimHolds (timetable net memory order instants) = isTimed instants (schedule net (ruleOf (arcsOf net) memory) order)
+claimHolds (noTimetable net memory order q) = isUntimed q (schedule net (ruleOf (arcsOf net) memory) order)
+claimHolds (rounds D waits rounded) = sameNumbers (roundedWaits D waits) rounded
 
-pub allHold : List Claim → Bool
-allHold [] = true
-allHold (c ∷ cs) = holds c && allHold cs
+pub claimsHold : List Claim → Bool
+claimsHold [] = true
+claimsHold (c ∷ cs) = claimHolds c && claimsHold cs
 
 -- ---- the cases
 waitFire : ℕ → ℕ → Firing
@@ -136,6 +130,10 @@ starred =
     ∷ []
 
 -- ---- the combined check
-pub starred-hold : allHold starred ≡ true
-unfolding transitionOf netA netB giver sameNumbers sameRefusal isPassed isRefused instantsFrom isTimed isUntimed holds allHold waitFire starred allBelow firstOf startMarking enabled taken after intermediate atomic startState waited clockOf inInterval bounded fired judged play tokensJudged tokens windowsFrom windowsOf earliestOf waitsFrom waitsBetween schedule roundedFrom roundedWaits
+pub starred-hold : claimsHold starred ≡ true
+unfolding rowOf netOf netA netB giver takeOf giveOf filled sameNumbers sameRefusal isPassed isRefused instantsFrom isTimed isUntimed claimHolds
+    claimsHold waitFire starred allBelow
+    startMarking enough taken after ruleOf startState waited clockOf timely limited judgedBy renewed fired play tokensJudged tokens windowsFrom
+    windowsOf verdictOf waitsFrom
+    waitsBetween schedule roundedFrom roundedWaits
 starred-hold = refl

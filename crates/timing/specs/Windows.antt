@@ -1,59 +1,45 @@
--- Document 01, "Windows and instants": what the tokens allow of a firing order, and the window of each of its firings.
+-- Document 01, "Windows and instants": the window of each firing of an order, and the timings that meet them.
 use Prim.Native.Nat.{ℕ, zero, suc, _+_}
 use mathlib.Core.Path.{_≡_}
-use mathlib.Core.Bool.{cond}
-use mathlib.Core.List.{List, [], _∷_, map}
+use mathlib.Core.List.{List, [], _∷_}
 use lib.ListN.{length, getD}
-use Rattle.laws.specs.Slots.{firstOf}
-use Rattle.reply.specs.declared.Refusal.the-variants.{NotEnabled, TooManyTokens}
-use Rattle.reply.specs.declared.Checked.{Checked}
-use Rattle.reply.specs.declared.Checked.the-variants.{Passed, Refused}
-use Rattle.form.specs.Form.{also}
+use Rattle.reply.specs.declared.Checked.the-variants.{Passed}
 use Rattle.net.specs.declared.Latest.{Latest}
 use Rattle.net.specs.declared.Latest.the-variants.{Unbounded, Ticks}
 use Rattle.net.specs.declared.Net.{Net}
-use Rattle.run.specs.declared.Firing.{Firing}
-use Rattle.run.specs.declared.Order.{Order}
+use Rattle.net.specs.Net.{noTransition}
 use Rattle.firing.specs.declared.State.{State}
-use Rattle.firing.specs.Semantics.{Restart, transitionAt, startMarking, enabled, after}
-use Rattle.firing.specs.Replay.{startState, waited, bounded, fired}
-use Rattle.timing.specs.Timing.{Upper, atMost, unbounded, Win, windows, Feasible}
-
--- firing number n, of t, judged by its tokens alone: 5, then 6
-unfoldable pub tokensJudged : Net → List ℕ → ℕ → ℕ → Checked
-tokensJudged net m t n = cond (enabled net m t) (cond (bounded net (after net m t)) Passed (Refused (TooManyTokens n))) (Refused (NotEnabled n))
-
--- the tokens allow an order if each firing in turn finds its transition enabled and leaves no place above 255; n firings have been
-unfoldable pub tokens : Net → List ℕ → List ℕ → ℕ → Checked
-tokens net [] m n = Passed
-tokens net (t ∷ ts) m n = also (tokensJudged net m t (n + 1)) (tokens net ts (after net m t) (n + 1))
+use Rattle.firing.specs.Semantics.{Restart, transitionAt, startMarking}
+use Rattle.firing.specs.Replay.{startState, waited, fired}
+use Rattle.firing.specs.Tokens.{tokens}
+use Rattle.timing.specs.declared.Window.{Window}
+use Rattle.timing.specs.Timing.{Upper, atMost, unbounded, Win, Feasible}
 
 abbrev pub upperOf : Latest → Upper
 upperOf Unbounded = unbounded
 upperOf (Ticks b) = atMost b
 
+-- window i of a list, as bounds on instants
+abbrev pub noWindow : Window
+noWindow = record { origin = 0; interval = noTransition }
+
+abbrev pub winOf : Window → Win
+winOf w = record { origin = w .origin; low = w .interval .earliest; high = upperOf (w .interval .latest) }
+
+abbrev pub windows : List Window → ℕ → Win
+windows ws i = winOf (getD ws i noWindow)
+
 -- Along an order a state's instants count firings: `since` of a transition is the firing o at which it last restarted, 0 for the beginning.
 -- The window of a firing of t: earliest and latest, counted from firing o.
-abbrev pub windowAt : Net → State → ℕ → Win
-windowAt net st t = record { origin = getD (st .since) t 0; low = transitionAt net t .earliest; high = upperOf (transitionAt net t .latest) }
+abbrev pub windowAt : Net → State → ℕ → Window
+windowAt net st t = record { origin = getD (st .since) t 0; interval = transitionAt net t }
 
-unfoldable pub windowsFrom : Net → Restart → List ℕ → State → List Win
+unfoldable pub windowsFrom : Net → Restart → List ℕ → State → List Window
 windowsFrom net restarts [] st = []
 windowsFrom net restarts (t ∷ ts) st = windowAt net st t ∷ windowsFrom net restarts ts (fired net restarts (waited st 1) t)
 
-unfoldable pub windowsOf : Net → Restart → List ℕ → List Win
+unfoldable pub windowsOf : Net → Restart → List ℕ → List Window
 windowsOf net restarts order = windowsFrom net restarts order (startState net)
-
--- the firings of an order value: slots past the count are no part of it
-abbrev pub firesOf : Order → List ℕ
-firesOf o = firstOf (o .count) 0 (o .fires)
-
--- the order of a run, and its waits
-unfoldable pub orderOf : List Firing → List ℕ
-orderOf fs = map (λ (f : Firing). f .fire) fs
-
-unfoldable pub waitsOf : List Firing → List ℕ
-waitsOf fs = map (λ (f : Firing). f .wait) fs
 
 -- S0 = 0, and Si is the sum of the first i waits
 unfoldable pub instants : List ℕ → ℕ → ℕ

@@ -3,10 +3,10 @@
 // bytes these are, or -(number * 65536 + place) for a refusal, which leaves the output as it was.
 use reply::Reply;
 ghost use mathlib.Core.Path.{_≡_};
-ghost use Rattle.engine.specs.Replay.{replayCards};
-ghost use Rattle.engine.specs.Round.{roundCards};
-ghost use Rattle.engine.specs.Process.{processCards};
-ghost use Rattle.engine.specs.Timetable.{timetableCards};
+ghost use Rattle.operations.specs.Replay.{replayCards};
+ghost use Rattle.operations.specs.Round.{roundCards};
+ghost use Rattle.operations.specs.Process.{processCards};
+ghost use Rattle.operations.specs.Timetable.{timetableCards};
 ghost use Rattle.tpn.specs.Result.{resultOf, Narrow, Returned};
 
 // A reply as one number. Every reply of an operation is narrow.

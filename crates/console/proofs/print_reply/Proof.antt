@@ -6,7 +6,8 @@ use Rattle.console.proofs.print_reply.Statement.{statement}
 use Rattle.console.proofs.print_reply.Tie as tie
 
 slice-aggregate-write-all : tie.Need-slice-aggregate-write-all
-slice-aggregate-write-all c = sym (length-take-le (c .before .before .before .r2 .given .0 .0) (c .before .before .before .before .before .before .args .out .now) (c .before .if1 .taken))
+slice-aggregate-write-all c = sym (length-take-le (c .before .before .before .r2 .given .0 .0)
+    (c .before .before .before .before .before .before .args .out .now) (c .before .if1 .taken))
 
 pub print-reply-spec : {M : Type 1} → statement M
 print-reply-spec =

@@ -1,33 +1,41 @@
--- A refusal by the reading is the answer; cards that were read pass their checks, and the answer is the rounding.
+-- The net card is read first, and the card behind it from the part of the input behind the net card.
 use borrow.Author.Needs.{needs}
-use Rattle.cards.proofs.Cards.{run-cards-passed, run-input-stopped, run-input-found}
-use Rattle.engine.specs.Process.{processOf}
+use Rattle.cards.proofs.Cards.{run-cards-passed}
+use Rattle.operations.specs.Process.{processOf}
+use Rattle.engine.proofs.Inputs.{run-input-stopped, run-input-found}
 use Rattle.engine.proofs.Outcome.{cards-refused, cards-found}
 use Rattle.engine.proofs.process_cards.Statement.{statement}
 use Rattle.engine.proofs.process_cards.Tie as tie
 
 process-checked-requires : tie.Need-process-checked-requires
 process-checked-requires c κs =
-    let t = c .before .before .before in
-    let k = t .before .before in
-    let s = k .before .before .before .args .input .now in
-    run-cards-passed s (run-input-found s (k .read-run-cards .ensures) (t .enum-told .given .1))
+    let t = c .before in
+    let b = t .before .before .before in
+    let n = b .before .before in
+    let a = n .before .before .before .args in
+    let f = run-input-found (a .input .now) (n .read-net .ensures) (b .run-behind .ensures) (t .enum-told .given .1) in
+    run-cards-passed (a .input .now) (f .1)
 
 returns : tie.Need-returns
 returns c =
-    let k = c .before .before .before in
-    let a = k .before .before .before .args in
-    cards-refused (λ v. processOf (v .0) (v .1)) (a .out .now) (run-input-stopped (a .input .now) (k .read-run-cards .ensures) (c .before .read .given .1))
+    let b = c .before .before .before .before in
+    let n = b .before .before in
+    let a = n .before .before .before .args in
+    cards-refused (λ v. processOf (v .0) (v .1)) (a .out .now)
+    (run-input-stopped (a .input .now) (n .read-net .ensures) (b .run-behind .ensures) (c .before .read .given .1))
 
 returns-2 : tie.Need-returns-2
 returns-2 c =
     let f = c .before .before in
-    let t = f .before .before .before .before in
-    let k = t .before .before in
-    let a = k .before .before .before .args in
-    cards-found (λ v. processOf (v .0) (v .1)) (run-input-found (a .input .now) (k .read-run-cards .ensures) (t .enum-told .given .1)) (f .process-checked .ensures)
+    let t = f .before .before in
+    let b = t .before .before .before in
+    let n = b .before .before in
+    let a = n .before .before .before .args in
+    let g = run-input-found (a .input .now) (n .read-net .ensures) (b .run-behind .ensures) (t .enum-told .given .1) in
+    cards-found (λ v. processOf (v .0) (v .1)) (g .1) (f .process-checked .ensures)
 
 pub process-cards-spec : {M : Type 1} → statement M
 process-cards-spec =
     tie.close
-    (tie.spec (λ c κs. search needs) (λ c. search needs) (λ c. search needs) process-checked-requires returns (λ c. search needs) returns-2)
+    (tie.spec (λ c κs. search needs) (λ c κs. search needs) (λ c. search needs) (λ c. search needs) process-checked-requires returns
+    (λ c. search needs) returns-2)

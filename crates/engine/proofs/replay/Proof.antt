@@ -1,15 +1,13 @@
--- A refusal by the check is the answer; of a run that passes, the replay.
+-- Values are checked as their cards would be, and the operation has what passed.
 use mathlib.Core.Path.{sym, _∙_}
 use borrow.Author.Needs.{needs}
-use Rattle.engine.specs.Replay.{replayOf}
+use Rattle.operations.specs.Replay.{replayOf}
 use Rattle.engine.proofs.Outcome.{check-refused, check-passed}
 use Rattle.engine.proofs.replay.Statement.{statement}
 use Rattle.engine.proofs.replay.Tie as tie
 
 replay-checked-requires : tie.Need-replay-checked-requires
-replay-checked-requires c κs =
-    let t = c .before in
-    sym (t .before .before .check-run .ensures) ∙ t .enum-told .given .1
+replay-checked-requires c κs = let t = c .before in sym (t .before .before .check-run .ensures) ∙ t .enum-told .given .1
 
 returns : tie.Need-returns
 returns c =

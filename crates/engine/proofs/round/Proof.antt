@@ -1,15 +1,13 @@
--- A refusal by the check is the answer; of a run that passes, the rounding.
+-- Values are checked as their cards would be, and the operation has what passed.
 use mathlib.Core.Path.{sym, _∙_}
 use borrow.Author.Needs.{needs}
-use Rattle.engine.specs.Round.{roundOf}
+use Rattle.operations.specs.Round.{roundOf}
 use Rattle.engine.proofs.Outcome.{check-refused, check-passed}
 use Rattle.engine.proofs.round.Statement.{statement}
 use Rattle.engine.proofs.round.Tie as tie
 
 round-checked-requires : tie.Need-round-checked-requires
-round-checked-requires c κs =
-    let t = c .before in
-    sym (t .before .before .check-run .ensures) ∙ t .enum-told .given .1
+round-checked-requires c κs = let t = c .before in sym (t .before .before .check-run .ensures) ∙ t .enum-told .given .1
 
 returns : tie.Need-returns
 returns c =

@@ -1,15 +1,13 @@
--- A refusal by the check is the answer; of an order that passes, the timetable.
+-- Values are checked as their cards would be, and the operation has what passed.
 use mathlib.Core.Path.{sym, _∙_}
 use borrow.Author.Needs.{needs}
-use Rattle.engine.specs.Timetable.{timetableOf}
+use Rattle.operations.specs.Timetable.{timetableOf}
 use Rattle.engine.proofs.Outcome.{check-refused, check-passed}
 use Rattle.engine.proofs.timetable.Statement.{statement}
 use Rattle.engine.proofs.timetable.Tie as tie
 
 timetable-checked-requires : tie.Need-timetable-checked-requires
-timetable-checked-requires c κs =
-    let t = c .before in
-    sym (t .before .before .check-order .ensures) ∙ t .enum-told .given .1
+timetable-checked-requires c κs = let t = c .before in sym (t .before .before .check-order .ensures) ∙ t .enum-told .given .1
 
 returns : tie.Need-returns
 returns c =

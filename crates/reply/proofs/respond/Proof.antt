@@ -26,7 +26,11 @@ returns-2 c =
     let a = c .before .before .before .before .before .before .before .args in
     let e = le-ltb (length (a .out .now)) (length (a .text .now)) (c .before .before .before .before .if1 .left) in
     let m = c .before .before .copy .ensures in
-    record { reply = rw e (ap Written (m .0)); output = rw e (m .1 ∙ ap (λ (l : List ℕ). l ++ drop (length (a .text .now)) (a .out .now)) (take-length (a .text .now))) }
+    record {
+      reply = rw e (ap Written (m .0));
+      output = rw e (m .1
+          ∙ ap (λ (l : List ℕ). l ++ drop (length (a .text .now)) (a .out .now)) (take-length (a .text .now)));
+    }
 
 pub respond-spec : {M : Type 1} → statement M
 respond-spec =

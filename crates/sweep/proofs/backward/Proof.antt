@@ -12,17 +12,18 @@ use Rattle.sweep.proofs.backward.Statement.{statement}
 use Rattle.sweep.proofs.backward.Tie as tie
 
 abbrev Inv-loop : tie.InvT-loop
-Inv-loop x₀ origin closed high bottom top from₀ stop₀ i₀ x from stop i = Descending (entry origin) (uppers closed high) top x₀ from stop i x
+Inv-loop x₀ origin bounded high bottom top from₀ stop₀ i₀ x from stop i = Descending (entry origin) (uppers bounded high) top x₀ from stop i x
 
 abbrev μ-loop : tie.MeasureT-loop
-μ-loop x₀ origin closed high bottom top from₀ stop₀ i₀ x from stop i = i
+μ-loop x₀ origin bounded high bottom top from₀ stop₀ i₀ x from stop i = i
 
 loop-holds : tie.Need-loop-holds Inv-loop μ-loop
-loop-holds c = let start = c .before .before .before in let a = start .args in back-start (entry (a .origin .now)) (uppers (a .closed .now) (a .high .now)) (a .top) (a .bottom) (a .x .now) (start .pre .1 .1 .0) (start .pre .1 .1 .1)
+loop-holds c = let start = c in let a = start .args in back-start (entry (a .origin .now)) (uppers (a .bounded .now) (a .high .now)) (a .top)
+    (a .bottom) (a .x .now) (start .pre .1 .1 .0) (start .pre .1 .1 .1)
 
-inside : (c : tie.In-loop Inv-loop μ-loop) → entry (c .before .before .before .before .before .args .origin .now) (c .before .loop .i - 1) < 65
+inside : (c : tie.In-loop Inv-loop μ-loop) → entry (c .before .before .args .origin .now) (c .before .loop .i - 1) < 65
 inside c =
-    let start = c .before .before .before .before .before in
+    let start = c .before .before in
     back-inside (c .before .loop .inv) (c .loop-test .taken) (start .pre .1 .0) (start .pre .0 .1)
 
 mul-if3 : tie.Need-mul-if3 Inv-loop μ-loop
@@ -39,43 +40,50 @@ element-write-x c = omega (arith, inside (c .before .before .before .before .bef
 
 loop-again : tie.Need-loop-again Inv-loop μ-loop
 loop-again c =
-    let turn = c .before .before .before .before .before .before .before .before .before .before .before in
-    let start = turn .before .before .before .before .before in
+    let past = c .before .before .before in
+    let closed = past .before .before .before .before .before .before in
+    let turn = closed .before .before in
+    let start = turn .before .before in
     let a = start .args in
     let l = turn .before .loop in
     let p = l .i - 1 in
     back-raised (l .inv) (turn .loop-test .taken) (start .pre .1 .0) (omega (arith, inside turn, start .pre .0 .0, l .inv .swept .size))
     (getD (l .x) (p + 1) 0 - getD (a .high .now) p 0)
-    (asks-past (getD (a .closed .now) p false) (getD (l .x) (p + 1) 0) (getD (a .high .now) p 0) (c .before .before .before .before .before .before .before .before .before .if1 .taken)) (c .before .before .before .if3 .taken)
+    (asks-past (getD (a .bounded .now) p false) (getD (l .x) (p + 1) 0) (getD (a .high .now) p 0)
+    (closed .if1 .taken)) (past .if3 .taken)
     (c .before .before .lower .result) (c .before .before .lower .ensures)
     (c .before .window-of .result) (c .lower2 .result) (c .before .window-of .ensures) (c .lower2 .ensures)
 
 loop-again-2 : tie.Need-loop-again-2 Inv-loop μ-loop
 loop-again-2 c =
     let turn = c .before .before .before .before .before .before .before .before in
-    let a = turn .before .before .before .before .before .args in
+    let a = turn .before .before .args in
     let l = turn .before .loop in
     let p = l .i - 1 in
     back-passed (l .inv) (turn .loop-test .taken)
-    (omega (arith, asks-past (getD (a .closed .now) p false) (getD (l .x) (p + 1) 0) (getD (a .high .now) p 0) (c .before .before .before .before .before .before .if1 .taken)))
+    (omega (
+      arith,
+      asks-past (getD (a .bounded .now) p false) (getD (l .x) (p + 1) 0) (getD (a .high .now) p 0)
+          (c .before .before .before .before .before .before .if1 .taken),
+    ))
 
 loop-again-3 : tie.Need-loop-again-3 Inv-loop μ-loop
 loop-again-3 c =
     let turn = c .before .before .before .before .before in
-    let a = turn .before .before .before .before .before .args in
+    let a = turn .before .before .args in
     let l = turn .before .loop in
     let p = l .i - 1 in
     back-passed (l .inv) (turn .loop-test .taken)
-    (omega (arith, asks-past (getD (a .closed .now) p false) (getD (l .x) (p + 1) 0) (getD (a .high .now) p 0) (c .before .before .before .if1 .taken)))
+    (omega (arith, asks-past (getD (a .bounded .now) p false) (getD (l .x) (p + 1) 0) (getD (a .high .now) p 0) (c .before .before .before .if1 .taken)))
 
 loop-again-4 : tie.Need-loop-again-4 Inv-loop μ-loop
 loop-again-4 c =
     let turn = c .before .before in
-    let a = turn .before .before .before .before .before .args in
+    let a = turn .before .before .args in
     let l = turn .before .loop in
     let p = l .i - 1 in
     back-passed (l .inv) (turn .loop-test .taken)
-    (omega (arith, asks-none (getD (a .closed .now) p false) (getD (l .x) (p + 1) 0) (getD (a .high .now) p 0) (c .if1 .left)))
+    (omega (arith, asks-none (getD (a .bounded .now) p false) (getD (l .x) (p + 1) 0) (getD (a .high .now) p 0) (c .if1 .left)))
 
 returns : tie.Need-returns Inv-loop μ-loop
 returns c = back-stop (c .before .loop .inv) (c .loop-test .left)

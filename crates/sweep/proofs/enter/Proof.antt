@@ -6,31 +6,33 @@ use Rattle.sweep.proofs.enter.Statement.{statement}
 use Rattle.sweep.proofs.enter.Tie as tie
 
 mul-later-2 : tie.Need-mul-later-2
-mul-later-2 c = let p = c .before .before .before .before .before .before .pre in omega (arith, origin-in (p .0) (p .1))
+mul-later-2 c = let p = c .before .before .pre in omega (arith, origin-in (p .0) (p .1))
 
 element-copy-out-later-2 : tie.Need-element-copy-out-later-2
-element-copy-out-later-2 c = let p = c .before .before .before .before .before .before .pre in origin-in (p .0) (p .1)
+element-copy-out-later-2 c = let p = c .before .before .pre in origin-in (p .0) (p .1)
 
 add-later : tie.Need-add-later
-add-later c = let p = c .before .before .before .before .before .before .before .before .pre in omega (arith, enter-fits (p .0) (p .1))
+add-later c = let p = c .before .before .before .before .pre in omega (arith, enter-fits (p .0) (p .1))
 
 mul-if1 : tie.Need-mul-if1
-mul-if1 c = let p = c .before .before .before .before .before .before .before .before .before .before .before .before .pre in omega (arith, origin-in (p .0) (p .1))
+mul-if1 c = let p = c .before .before .before .before .before .before .before .before .pre in omega (arith, origin-in (p .0) (p .1))
 
 element-copy-out-if1 : tie.Need-element-copy-out-if1
-element-copy-out-if1 c = let p = c .before .before .before .before .before .before .before .before .before .before .before .before .pre in origin-in (p .0) (p .1)
+element-copy-out-if1 c = let p = c .before .before .before .before .before .before .before .before .pre in origin-in (p .0) (p .1)
 
 returns : tie.Need-returns
 returns c =
-    let p = c .before .before .before .before .before .before .before .before .before .before .before .before .before .before .pre in
-    let t = c .before .before .before .before .before .later in
+    let put = c .before .before .before .before .before in
+    let t = put .later in
+    let p = put .before .before .before .before .before .pre in
     let needed = c .before .before .least-origin in
     enter-met (p .0) (p .1) (t .result) (t .ensures) (needed .result) (needed .ensures) (c .if1 .taken)
 
 settle-requires : tie.Need-settle-requires
 settle-requires c κs =
-    let p = c .before .before .before .before .before .before .before .before .before .before .before .before .before .before .before .pre in
-    let t = c .before .before .before .before .before .before .later in
+    let put = c .before .before .before .before .before .before in
+    let t = put .later in
+    let p = put .before .before .before .before .before .pre in
     (p .0, enter-put (p .0) (p .1) (t .result) (t .ensures))
 
 pub enter-spec : {M : Type 1} → statement M

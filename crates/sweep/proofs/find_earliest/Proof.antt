@@ -1,52 +1,34 @@
--- The invariant: x holds the least instants of the first i windows. The first window that fails answers for all, and so does the end.
-use Prim.Native.Nat.{_-_, _≤_}
-use native.Mathlib.Omega.{arith}
-use borrow.Author.Tests.{not-true, not-false}
+-- The windows spread out are as the search asks for them, and its verdict is theirs.
+use Prim.Native.Nat.{_≤_}
+use native.Mathlib.Nat.{min-le-right}
+use mathlib.Core.Path.{ap, _∙_}
 use borrow.Author.Needs.{needs}
-use Rattle.timing.specs.Collect.{windowIn}
-use Rattle.sweep.specs.Sweeps.{Solved}
-use Rattle.sweep.proofs.Prefixes.{solved-zero, listed-first, judges-fails, judges-met}
+use Rattle.sweep.specs.Arrays.{Listed, earliestBy, earliestOf}
+use Rattle.sweep.specs.Spread.{lists}
+use Rattle.sweep.proofs.Spreading.{spread-listed, spread-verdict}
 use Rattle.sweep.proofs.find_earliest.Statement.{statement}
 use Rattle.sweep.proofs.find_earliest.Tie as tie
 
-abbrev Inv-loop : tie.InvT-loop
-Inv-loop origin low closed high n x₀ i₀ x i = (i ≤ n) × Solved (windowIn origin low closed high) i x
+few : (c : tie.After-lower) → c .lower .result ≤ 64
+few c = rw (c .lower .ensures) (min-le-right (c .before .args .count) 64)
 
-abbrev μ-loop : tie.MeasureT-loop
-μ-loop origin low closed high n x₀ i₀ x i = n - i
+listed : (c : tie.After-spread) → let l = lists (c .before .before .args .windows) (c .before .lower .result) in
+    Listed (l .origin) (l .low) (l .bounded) (l .high) (c .before .lower .result)
+listed c = spread-listed (c .before .before .args .windows) (c .before .lower .result) (few (c .before)) (c .spread .ensures .small)
 
-loop-holds : tie.Need-loop-holds Inv-loop μ-loop
-loop-holds c = (omega arith, solved-zero _)
+search-requires : tie.Need-search-requires
+search-requires c κs = let s = c .before .before .before .before .before in rw (s .spread .ensures .same) (listed s)
 
-enter-requires : tie.Need-enter-requires Inv-loop μ-loop
-enter-requires c κs =
-    let p = c .before .before .before .before .before .before .before .pre in
-    (listed-first p (omega arith), c .before .before .loop .inv .1)
-
-returns : tie.Need-returns Inv-loop μ-loop
+returns : tie.Need-returns
+unfolding earliestOf
 returns c =
-    let start = c .before .before .before .before .before .before .before .before .before in
-    let a = start .args in
-    let p = start .pre in
-    let l = c .before .before .before .before .loop in
-    judges-fails (windowIn (a .origin .now) (a .low .now) (a .closed .now) (a .high .now)) (a .n) (p .few) (p .earlier) (l .i) (l .x) (l .inv .1) (c .before .enter .last .0)
-    (c .before .before .before .loop-test .taken) (rw (not-true (c .before .enter .result) (c .if1 .taken)) at (c .before .enter .ensures))
-
-loop-less : tie.Need-loop-less Inv-loop μ-loop
-loop-less c = omega arith
-
-loop-again : tie.Need-loop-again Inv-loop μ-loop
-loop-again c = (omega arith, rw (not-false (c .before .enter .result) (c .if1 .left)) at (c .before .enter .ensures))
-
-returns-2 : tie.Need-returns-2 Inv-loop μ-loop
-returns-2 c =
-    let start = c .before .before .before .before .before .before in
-    let a = start .args in
-    let p = start .pre in
-    let l = c .before .loop in
-    judges-met (windowIn (a .origin .now) (a .low .now) (a .closed .now) (a .high .now)) (a .n) (p .few) (p .earlier) (l .i) (l .x) (l .inv .1) (c .loop-test .left) (l .inv .0)
+    let s = c .before .before .before .before .before .before in
+    let b = s .before in
+    rw (← b .lower .ensures)
+    (rw (s .spread .ensures .same) at (c .search .ensures)
+    ∙ ap earliestBy (spread-verdict (b .before .args .windows) (b .lower .result) (few b) (listed s .earlier)))
 
 pub find-earliest-spec : {M : Type 1} → statement M
 find-earliest-spec =
     tie.close
-    (tie.spec Inv-loop μ-loop loop-holds enter-requires (λ c. search needs) returns loop-less loop-again returns-2)
+    (tie.spec (λ c κs. search needs) (λ c κs. search needs) search-requires returns)

@@ -47,9 +47,6 @@ part-put-bytes-end c =
     let l = c .before .before .before .loop in
     omega (arith, length-set (l .digits) (l .i - 1) (48 + l .v), l .inv .long)
 
-put-bytes-requires : tie.Need-put-bytes-requires Inv-loop μ-loop
-put-bytes-requires c κs = rw (copied (c .before .before .before)) (search needs)
-
 returns : tie.Need-returns Inv-loop μ-loop
 returns c = rw (copied (c .before .before .before .before .before .before)) at (c .before .before .put-bytes .ensures)
 
@@ -57,5 +54,5 @@ pub put-digits-spec : {M : Type 1} → statement M
 put-digits-spec =
     tie.close
     (tie.spec Inv-loop μ-loop loop-holds sub-i (λ c. search needs) (λ c. search needs) (λ c. search needs) loop-less loop-again sub-i-2
-    (λ c. search needs) (λ c. search needs) (λ c. search needs) (λ c. search needs) (λ c. search needs) part-put-bytes-end put-bytes-requires
+    (λ c. search needs) (λ c. search needs) (λ c. search needs) (λ c. search needs) (λ c. search needs) part-put-bytes-end (λ c κs. search needs)
     (λ c. search needs) returns)

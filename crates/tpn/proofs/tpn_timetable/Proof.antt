@@ -1,7 +1,7 @@
 -- The reply is the operation's, and its result tells it, since lengths and places are small.
 use lib.Dec.{lit<}
 use borrow.Author.Needs.{needs}
-use Rattle.engine.proofs.Lengths.{timetable-bounds}
+use Rattle.operations.proofs.Lengths.{timetable-bounds}
 use Rattle.tpn.proofs.Results.{reply-narrow, returned}
 use Rattle.tpn.proofs.tpn_timetable.Statement.{statement}
 use Rattle.tpn.proofs.tpn_timetable.Tie as tie

@@ -1,0 +1,7 @@
+pub mod Intervals
+pub mod Stored
+pub mod OneDigit
+pub mod Tables
+pub mod Read
+pub mod Check
+pub mod Write

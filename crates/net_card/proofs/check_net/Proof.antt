@@ -1,0 +1,97 @@
+-- The counts are checked, and then the intervals, in the order of the card; the first refusal is the answer.
+use Prim.Native.Nat.{ℕ, _-_, _≤_}
+use native.Mathlib.Omega.{arith}
+use mathlib.Core.Path.{_≡_, sym, _∙_}
+use lib.ListN.{getD}
+use mir.Syntax.{w8}
+use mir.Val.{Fits}
+use borrow.Author.Needs.{needs}
+use Rattle.reply.specs.declared.Checked.the-variants.{Passed}
+use Rattle.form.specs.Line.{ranged}
+use Rattle.form.proofs.Lines.{ranged-within}
+use Rattle.net_card.proofs.Check.{InBytes, RowsChecked, places-fail, transitions-fail, rows-begin, interval-fails, interval-passes, all-pass}
+use Rattle.net_card.proofs.check_net.Statement.{statement}
+use Rattle.net_card.proofs.check_net.Tie as tie
+
+abbrev Inv-loop : tie.InvT-loop
+Inv-loop net places transitions line t₀ t = RowsChecked net t
+
+abbrev μ-loop : tie.MeasureT-loop
+μ-loop net places transitions line t₀ t = transitions - t
+
+start-fits : (s : tie.Start Inv-loop μ-loop) (i : ℕ) → Fits w8 (getD (s .args .t1 .start) i 0)
+start-fits s i = search needs
+
+take-fits : (s : tie.Start Inv-loop μ-loop) (i : ℕ) → Fits w8 (getD (s .args .t1 .take) i 0)
+take-fits s i = search needs
+
+give-fits : (s : tie.Start Inv-loop μ-loop) (i : ℕ) → Fits w8 (getD (s .args .t1 .give) i 0)
+give-fits s i = search needs
+
+in-bytes : (s : tie.Start Inv-loop μ-loop) → InBytes (s .args .t1)
+in-bytes s =
+    record { start = λ i. omega (arith, start-fits s i); take = λ i. omega (arith, take-fits s i); give = λ i. omega (arith, give-fits s i) }
+
+places-pass : (c : tie.After-enum-told Inv-loop μ-loop) → ranged 1 16 (c .before .before .before .args .t1 .places) 1 ≡ Passed
+places-pass c = sym (c .before .before .check-range .ensures) ∙ c .enum-told .given .1
+
+transitions-pass : (c : tie.After-enum-told3 Inv-loop μ-loop)
+    → ranged 1 32 (c .before .before .before .before .before .before .args .t1 .transitions) 2 ≡ Passed
+transitions-pass c = sym (c .before .before .check-range2 .ensures) ∙ c .enum-told3 .given .1
+
+returns : tie.Need-returns Inv-loop μ-loop
+returns c =
+    let p = c .before .before in
+    c .enum-told2 .given .1 ∙ places-fail (p .before .args .t1) (sym (p .check-range .ensures) ∙ c .enum-told2 .given .1)
+
+returns-2 : tie.Need-returns-2 Inv-loop μ-loop
+returns-2 c =
+    let q = c .before .before in
+    c .enum-told4 .given .1
+    ∙ transitions-fail (q .before .before .before .before .args .t1) (places-pass (q .before)) (sym (q .check-range2 .ensures) ∙ c .enum-told4 .given .1)
+
+-- the counts behind their checks
+few : (c : tie.After-enum-told3 Inv-loop μ-loop) →
+    let n = c .before .before .before .before .before .before .args .t1 in (n .places ≤ 16) × (n .transitions ≤ 32)
+few c =
+    let n = c .before .before .before .before .before .before .args .t1 in
+    (ranged-within 1 16 (n .places) 1 (places-pass (c .before .before .before)) .1, ranged-within 1 32 (n .transitions) 2 (transitions-pass c) .1)
+
+returns-3 : tie.Need-returns-3 Inv-loop μ-loop
+returns-3 c =
+    let k = c .before .before in
+    let l = k .before .before in
+    let m = l .before .before in
+    let s = m .before .before .before .before .before .before in
+    c .enum-told6 .given .1
+    ∙ interval-fails (s .args .t1) (in-bytes s) (places-pass (m .before .before .before)) (transitions-pass m) (l .before .loop .inv) (l .loop-test .taken)
+    (sym (k .check-interval .ensures) ∙ c .enum-told6 .given .1)
+
+loop-again : tie.Need-loop-again Inv-loop μ-loop
+loop-again c =
+    let k = c .before .before in
+    let l = k .before .before in
+    let m = l .before .before in
+    let s = m .before .before .before .before .before .before in
+    interval-passes (s .args .t1) (in-bytes s) (places-pass (m .before .before .before)) (transitions-pass m) (l .before .loop .inv) (l .loop-test .taken)
+    (sym (k .check-interval .ensures) ∙ c .enum-told5 .given .1)
+
+returns-4 : tie.Need-returns-4 Inv-loop μ-loop
+returns-4 c =
+    let m = c .before .before in
+    let s = m .before .before .before .before .before .before in
+    all-pass (s .args .t1) (in-bytes s) (places-pass (m .before .before .before)) (transitions-pass m) (c .before .loop .inv) (c .loop-test .left)
+
+pub check-net-spec : {M : Type 1} → statement M
+check-net-spec =
+    tie.close
+    (tie.spec Inv-loop μ-loop (λ c κs. search needs) (λ c. search needs) (λ c. search needs) returns (λ c κs. search needs) (λ c. search needs)
+    (λ c. search needs) returns-2
+    (λ c. omega (arith, few c))
+    (λ c. rows-begin (c .before .before .before .before .before .before .args .t1))
+    (λ c. omega (arith, few (c .before .before)))
+    (λ c. omega (arith, few (c .before .before)))
+    (λ c. omega (arith, few (c .before .before .before)))
+    (λ c. omega (arith, few (c .before .before .before)))
+    (λ c κs. omega (arith, few (c .before .before .before)))
+    (λ c. search needs) (λ c. search needs) returns-3 (λ c. search needs) (λ c. search needs) loop-again returns-4)

@@ -1,0 +1,95 @@
+-- When an operation has an answer: each step that can refuse passed. And what the card of a run in whole ticks says.
+use Prim.Native.Nat.{ℕ, _≤_, _<_}
+use native.Mathlib.Nat.{min-le-left}
+use native.Mathlib.Omega.{arith}
+use mathlib.Core.Path.{_≡_, refl, sym, ap, subst}
+use mathlib.Core.Logic.{_↔_}
+use mathlib.Core.List.{List}
+use lib.ListN.{length}
+use Rattle.reply.specs.declared.Refusal.{Refusal}
+use Rattle.reply.specs.declared.Refusal.the-variants.{Untimable}
+use Rattle.reply.specs.declared.Checked.{Checked}
+use Rattle.reply.specs.declared.Checked.the-variants as checked
+use Rattle.reply.specs.declared.Reply.the-variants.{Refused}
+use Rattle.reply.specs.Respond.{Outcome, answer, refusal, Answered, replyTo}
+use Rattle.reply.proofs.Laws.{refused-exactly}
+use Rattle.form.specs.Form.{found}
+use Rattle.net.specs.declared.Net.{Net}
+use Rattle.net.specs.Net.{netCard}
+use Rattle.net.proofs.Card.{net-earliest}
+use Rattle.run.specs.declared.Run.{Run}
+use Rattle.run.specs.declared.Order.{Order}
+use Rattle.run.specs.Run.{runCard, firesOf}
+use Rattle.firing.specs.declared.State.{State}
+use Rattle.firing.specs.Semantics.{arcsOf, Restart, transitionAt}
+use Rattle.firing.specs.Replay.{replay}
+use Rattle.timing.specs.Schedule.{Scheduled, timed, unschedulable}
+use Rattle.timing.specs.Rounding.{timetableRun}
+use Rattle.cards.specs.Cards.{readRun, runChecked}
+use Rattle.cards.proofs.Cards.{run-reads-itself}
+use Rattle.operations.specs.Operation.{onceChecked}
+use Rattle.operations.specs.Replay.{endText, ended}
+use Rattle.operations.specs.Timetable.{scheduleText}
+use Rattle.operations.specs.Claims.{WholeTickRun}
+
+no-answer : {r : Refusal} {bytes : List ℕ} → refusal r ≡ answer bytes → ⊥
+no-answer e = let z : _≡_ {A = ℕ} 0 1 = cc in omega arith
+
+-- the lower bounds of a net that passes its check
+pub earliest-within : (net : Net) → netCard .check net 1 ≡ checked.Passed → (t : ℕ) → t < arcsOf net .transitions → transitionAt net t .earliest ≤ 1000
+earliest-within net q t l = net-earliest net q t (omega (arith, min-le-left (net .transitions) 32))
+
+-- ---- behind a check
+pub once-answer : (c : Checked) (o : Outcome) (bytes : List ℕ) → (onceChecked c o ≡ answer bytes) ↔ ((c ≡ checked.Passed) × (o ≡ answer bytes))
+once-answer c o bytes = (go c, λ p. rw (p .0) (p .1))
+  where
+    go : (c : Checked) → onceChecked c o ≡ answer bytes → (c ≡ checked.Passed) × (o ≡ answer bytes)
+    go checked.Passed e = (refl, e)
+    go (checked.Refused r) e = absurd (no-answer e)
+
+pub once-answered : (c : Checked) (o : Outcome) → Answered (onceChecked c o) ↔ ((c ≡ checked.Passed) × Answered o)
+once-answered c o = (
+  λ a. let h = once-answer c o (a .0) .0 (a .1) in (h .0, (a .0, h .1)),
+  λ p. (p .1 .0, once-answer c o (p .1 .0) .1 (p .0, p .1 .1)),
+)
+
+-- ---- the end of a replay
+pub end-answered : (net : Net) (c : Checked) (st : State) → Answered (ended net c st) ↔ (c ≡ checked.Passed)
+end-answered net c st = (go c, λ e. (endText net st, rw e refl))
+  where
+    go : (c : Checked) → Answered (ended net c st) → c ≡ checked.Passed
+    go checked.Passed a = refl
+    go (checked.Refused r) a = absurd (no-answer (a .1))
+
+-- ---- a schedule
+module _ (net : Net) (o : Order) where
+  abbrev pub timetableText : List ℕ → List ℕ
+  timetableText waits = runCard (net .transitions) .text (timetableRun (o .memory) (firesOf o) waits)
+
+  pub schedule-answer : (s : Scheduled) (bytes : List ℕ) → scheduleText net o s ≡ answer bytes
+      → (waits : List ℕ) × (s ≡ timed waits) × (timetableText waits ≡ bytes)
+  schedule-answer (timed waits) bytes e = (waits, refl, cc)
+  schedule-answer (unschedulable r) bytes e = absurd (no-answer e)
+
+  pub schedule-refusal : (s : Scheduled) (r : Refusal) → (scheduleText net o s ≡ refusal r) ↔ (s ≡ unschedulable r)
+  schedule-refusal (timed waits) r = (λ e. absurd (no-answer (sym e)), λ e. ap (scheduleText net o) e)
+  schedule-refusal (unschedulable q) r = (λ e. cc, λ e. ap (scheduleText net o) e)
+
+  -- 8 is told whatever the output, exactly when the schedule finds it
+  pub untimable-told : (s : Scheduled) (k : ℕ) (out : List ℕ) → (replyTo (scheduleText net o s) out ≡ Refused (Untimable k)) ↔ (s ≡ unschedulable (Untimable k))
+  untimable-told s k out =
+      let told = refused-exactly (scheduleText net o s) (Untimable k) (λ e. let z : _≡_ {A = ℕ} 0 1 = cc in omega arith) out in
+      let why = schedule-refusal s (Untimable k) in
+      (λ e. why .0 (told .0 e), λ e. told .1 (why .1 e))
+
+-- ---- the card of a run in whole ticks that is accepted
+module _ (net : Net) (restarts : Restart) (r : Run) (ticks : r .denominator ≡ 1) (p : runChecked net r ≡ checked.Passed)
+    (a : replay net restarts r .checked ≡ checked.Passed) (clean : runCard (net .transitions) .clean r ≡ r) where
+  pub whole-tick-run : (bytes : List ℕ) → runCard (net .transitions) .text r ≡ bytes → WholeTickRun net restarts bytes r
+  whole-tick-run bytes e =
+      record {
+        is-card = subst (λ (l : List ℕ). readRun net l ≡ found r (length l)) e (run-reads-itself net r p clean);
+        whole-ticks = ticks;
+        checked = p;
+        accepted = a;
+      }

@@ -1,0 +1,5 @@
+pub mod Answers
+pub mod Causality
+pub mod Demands
+pub mod Lengths
+pub mod Places

@@ -1,0 +1,48 @@
+-- What demand 3 asks of a timetable and of a rounded run.
+use Prim.Native.Nat.{ℕ, _*_, _/_, _≤_, _<_}
+use mathlib.Core.Path.{_≡_}
+use mathlib.Core.List.{List}
+use lib.ListN.{length, take}
+use Rattle.reply.specs.declared.Checked.the-variants.{Passed}
+use Rattle.form.specs.Form.{found}
+use Rattle.net.specs.declared.Net.{Net}
+use Rattle.run.specs.declared.Run.{Run}
+use Rattle.run.specs.declared.Order.{Order}
+use Rattle.firing.specs.Semantics.{Restart}
+use Rattle.run.specs.Run.{firingsOf, firesOf, orderOf, waitsOf}
+use Rattle.firing.specs.Replay.{startState, play, replay}
+use Rattle.timing.specs.Windows.{instants, Timing}
+use Rattle.timing.specs.Rounding.{endInstant}
+use Rattle.cards.specs.Cards.{readRun, runChecked}
+
+-- the instants S0, S1, .. of a run's firings, in parts
+abbrev pub instantsOf : Run → ℕ → ℕ
+instantsOf r = instants (waitsOf (firingsOf r))
+
+-- the marking after the first i firings of a run
+abbrev pub markingAt : Net → Restart → Run → ℕ → List ℕ
+markingAt net restarts r i = play net restarts (r .denominator) (take i (firingsOf r)) (startState net) 0 .state .marking
+
+-- bytes are the card of a whole-tick run that the engine accepts
+pub record WholeTickRun (net : Net) (restarts : Restart) (bytes : List ℕ) (r : Run) : Type 0 where
+  pub is-card : readRun net bytes ≡ found r (length bytes)
+  pub whole-ticks : r .denominator ≡ 1
+  pub checked : runChecked net r ≡ Passed
+  pub accepted : replay net restarts r .checked ≡ Passed
+
+-- r is the earliest timetable of an order: no timing at any denominator has any firing earlier
+pub record EarliestRun (net : Net) (restarts : Restart) (o : Order) (r : Run) : Type 0 where
+  pub memory : r .memory ≡ o .memory
+  pub order : orderOf (firingsOf r) ≡ firesOf o
+  pub no-rest : r .rest ≡ 0
+  pub earliest : (D : ℕ) → 0 < D → (waits : List ℕ) → Timing net restarts D (firesOf o) waits → (i : ℕ) → i ≤ length (firesOf o)
+      → D * instantsOf r i ≤ instants waits i
+  pub early : (i : ℕ) → instantsOf r i ≤ 64000
+
+-- q is the run r with every instant, the end included, rounded down to whole ticks
+pub record RoundedDown (net : Net) (restarts : Restart) (r q : Run) : Type 0 where
+  pub memory : q .memory ≡ r .memory
+  pub order : orderOf (firingsOf q) ≡ orderOf (firingsOf r)
+  pub instant : (i : ℕ) → instantsOf q i ≡ instantsOf r i / r .denominator
+  pub end : endInstant q ≡ endInstant r / r .denominator
+  pub markings : (i : ℕ) → markingAt net restarts q i ≡ markingAt net restarts r i

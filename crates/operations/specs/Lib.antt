@@ -1,0 +1,6 @@
+pub mod Claims
+pub mod Operation
+pub mod Process
+pub mod Replay
+pub mod Round
+pub mod Timetable

@@ -1,0 +1,63 @@
+-- What the functions of this crate return, for what the forms find.
+use Prim.Native.Nat.{ℕ}
+use mathlib.Core.List.{List}
+use lib.ListN.{replicate}
+use Rattle.form.specs.Form.{Found, found, refused, andThen}
+use Rattle.form.specs.Code.{lineRead, valueOr}
+use Rattle.run.specs.declared.Memory.{Memory}
+use Rattle.run.specs.declared.Memory.the-variants.{Intermediate}
+use Rattle.run.specs.declared.Firing.{Firing}
+use Rattle.run.specs.declared.Run.{Run}
+use Rattle.run.specs.declared.Order.{Order}
+use Rattle.run.specs.Run.{noFiring}
+use Rattle.run_card.specs.declared.MemoryLine.{MemoryLine}
+use Rattle.run_card.specs.declared.MemoryLine.the-variants as memory-line
+use Rattle.run_card.specs.declared.OneFiring.{OneFiring}
+use Rattle.run_card.specs.declared.OneFiring.the-variants as one-firing
+use Rattle.run_card.specs.declared.RunFirings.{RunFirings}
+use Rattle.run_card.specs.declared.OrderFires.{OrderFires}
+use Rattle.run_card.specs.declared.RunRead.{RunRead}
+use Rattle.run_card.specs.declared.OrderRead.{OrderRead}
+
+-- a line's memory rule
+abbrev pub memoryLine : Found Memory → MemoryLine
+memoryLine (found m next) = memory-line.Value m next
+memoryLine (refused r) = memory-line.Refused r
+
+-- a firing
+abbrev pub oneFiring : Found Firing → OneFiring
+oneFiring (found f next) = one-firing.Value (f .wait) (f .fire) next
+oneFiring (refused r) = one-firing.Refused r
+
+-- the firings of a run
+abbrev pub runFirings : Found (List Firing) → RunFirings
+runFirings f = record { read = lineRead f; firings = valueOr (replicate 64 noFiring) f }
+
+-- the fired transitions of an order
+abbrev pub orderFires : Found (List ℕ) → OrderFires
+orderFires f = record { read = lineRead f; fires = valueOr (replicate 64 0) f }
+
+-- the run of a refused card
+abbrev pub noRun : Run
+noRun = record { memory = Intermediate; denominator = 0; count = 0; firings = replicate 64 noFiring; rest = 0 }
+
+-- the order of a refused card
+abbrev pub noOrder : Order
+noOrder = record { memory = Intermediate; count = 0; fires = replicate 64 0 }
+
+-- a run
+abbrev pub runRead : Found Run → RunRead
+runRead f = record { read = lineRead f; run = valueOr noRun f }
+
+-- an order
+abbrev pub orderRead : Found Order → OrderRead
+orderRead f = record { read = lineRead f; order = valueOr noOrder f }
+
+-- a run from the values of its first three lines and what the lines behind them say
+abbrev pub runFrom : Memory → ℕ → ℕ → Found (List Firing × ℕ) → Found Run
+runFrom memory denominator count f =
+    andThen f (λ v next. found (record { memory = memory; denominator = denominator; count = count; firings = v .0; rest = v .1 }) next)
+
+-- an order from the values of its first two lines and what the lines behind them say
+abbrev pub orderFrom : Memory → ℕ → Found (List ℕ) → Found Order
+orderFrom memory count f = andThen f (λ l next. found (record { memory = memory; count = count; fires = l }) next)

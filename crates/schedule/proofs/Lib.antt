@@ -1,0 +1,3 @@
+pub mod Collecting
+pub mod Rounds
+pub mod Timetables
