@@ -228,8 +228,8 @@ module _ (net : Net) (order : List ℕ) (brief : length order ≤ 64) (start : (
   Few x = x .count ≤ 255
 
   few-small : (k : ℕ) → k ≤ 64 → (items : List Item) → Each (Produced net order k) items → Each Few items → Each Small items
-  few-small k b = each-zip {P = Produced net order k} {Q = Few} {R = Small}
-      (λ x a c. (omega (arith, a .in-net, few-places net), omega (arith, a .earlier), omega arith))
+  few-small k b =
+      each-zip {P = Produced net order k} {Q = Few} {R = Small} (λ x a c. (omega (arith, a .in-net, few-places net), omega (arith, a .earlier), omega arith))
 
   from-small : (i : ℕ) → i < length order → Each Small (fromAt net order i)
   from-small i l =

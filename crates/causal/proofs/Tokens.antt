@@ -96,12 +96,8 @@ module _ (net : Net) where
     in-turn order queues k a b l taken stands =
         let t = getD order k 0 in
         let queue = queuesBehind net (take k order) queues p in
-        let inside : a < length queue = omega (
-          arith,
-          entry-inside (oldest (takes (arcsOf net) t p) queue) a taken,
-          length-oldest
-              (takes (arcsOf net) t p) queue,
-        ) in
+        let inside : a < length queue =
+        omega (arith, entry-inside (oldest (takes (arcsOf net) t p) queue) a taken, length-oldest (takes (arcsOf net) t p) queue) in
         ⊎-elim (λ h. h)
         (λ h. absurd (omega (arith, none-before (takes (arcsOf net) t p) queue a b taken h, entry-kept order queues k b l (omega arith))))
         (le-or-lt a b)

@@ -45,8 +45,8 @@ module _ (net : Net) (D : ℕ) (st : State) (t n : ℕ) where
 
   pub because : Sound st → (r : Refusal) → judged net D st t n ≡ Refused r → Because net D r n (view st) t
   unfolding judgedBy
-  because sound r = go (enabled (arcsOf net) (st .marking) t) (timely (transitionAt net t) D (clockOf st t)) (limited (arcsOf net) (st .marking) t)
-      refl refl refl
+  because sound r =
+      go (enabled (arcsOf net) (st .marking) t) (timely (transitionAt net t) D (clockOf st t)) (limited (arcsOf net) (st .marking) t) refl refl refl
     where
       is : {r′ : Refusal} → Refused r′ ≡ Refused r → r′ ≡ r
       is e = cc
@@ -89,8 +89,8 @@ module _ (net : Net) (restarts : Restart) (D : ℕ) where
       → play net restarts D fs st n ≡ record { checked = Refused r; state = st′ }
       → FirstRefused net restarts D fs (view st) n r
   unfolding play
-  play-refused [] st st′ n r h = λ e. let k : _≡_ {A = Checked} Passed (Refused r) = ap (λ (p : Played). p .checked) e in let z : _≡_ {A = ℕ} 0 1 =
-      cc in absurd (omega arith)
+  play-refused [] st st′ n r h =
+      λ e. let k : _≡_ {A = Checked} Passed (Refused r) = ap (λ (p : Played). p .checked) e in let z : _≡_ {A = ℕ} 0 1 = cc in absurd (omega arith)
   play-refused (f ∷ fs) st st′ n r h =
       let w = waited st (f .wait) in
       go (judged net D w (f .fire) (n + 1)) refl
@@ -130,8 +130,8 @@ module _ (net : Net) where
 
   pub start-at : (p : ℕ) → p < arcsOf net .places → getD (startMarking net) p 0 ≡ getD (net .start) p 0
   unfolding startMarking
-  start-at p l = filled-at (λ q. getD (net .start) q 0) (replicate 16 0) 0 (min (net .places) 16) p l
-      (omega (arith, few-places net, length-replicate {A = ℕ} 16 0))
+  start-at p l =
+      filled-at (λ q. getD (net .start) q 0) (replicate 16 0) 0 (min (net .places) 16) p l (omega (arith, few-places net, length-replicate {A = ℕ} 16 0))
 
   pub length-start : length (startMarking net) ≡ 16
   unfolding startMarking

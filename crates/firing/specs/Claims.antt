@@ -24,8 +24,8 @@ pub record Matches (net : Net) (S : Timed) (st : State) : Type 0 where
 
 -- a rule under which a transition restarts where it was not enabled before the firing
 unfoldable pub Restarting : Net → Restart → Type 0
-Restarting net restarts = (m : List ℕ) (t u : ℕ) → enabled (arcsOf net) (after (arcsOf net) m t) u ≡ true → enabled (arcsOf net) m u ≡ false
-    → restarts m t u ≡ true
+Restarting net restarts =
+    (m : List ℕ) (t u : ℕ) → enabled (arcsOf net) (after (arcsOf net) m t) u ≡ true → enabled (arcsOf net) m u ≡ false → restarts m t u ≡ true
 
 -- the clock is within the interval
 abbrev pub OnTime : Net → ℕ → Timed → ℕ → Type 0

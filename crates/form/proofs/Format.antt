@@ -36,8 +36,8 @@ module _ {A : Type 0} {f : Form A} {P : Type 0} {r n : ℕ} where
       record {
         settled = chain-settled f g same (w .settled) (λ a. z a .settled);
         inverse = λ p. chain-inverse f g same (w .inverse p) (w .settled) (λ a line c. z a .inverse (more a line c p));
-        reaches = λ p. chain-reaches f g (w .reaches p) (λ a s at next line e. z a .reaches
-            (more a line (w .inverse p .written-read a s at next line e .passed) p));
+        reaches =
+            λ p. chain-reaches f g (w .reaches p) (λ a s at next line e. z a .reaches (more a line (w .inverse p .written-read a s at next line e .passed) p));
         placed = λ p. chain-placed (w .placed p) (λ a s at next line e. z a .placed (more a line (w .inverse p .written-read a s at next line e .passed) p));
       }
 

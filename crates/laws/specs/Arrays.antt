@@ -66,8 +66,8 @@ module _ {A : Type 0} where
   -- a function that says what is there changes nothing
   pub filled-idle : (f : ℕ → A) (l : List A) (d : A) (n : ℕ) → ((k : ℕ) → k < n → getD l k d ≡ f k) → filled f n l ≡ l
   filled-idle f l d zero h = filled-none f l
-  filled-idle f l d (suc n) h = sym (ap (λ (k : ℕ). filled f k l) (add-one n)) ∙ filled-keep f l d n (h n (omega arith))
-      ∙ filled-idle f l d n (λ k b. h k (omega arith))
+  filled-idle f l d (suc n) h =
+      sym (ap (λ (k : ℕ). filled f k l) (add-one n)) ∙ filled-keep f l d n (h n (omega arith)) ∙ filled-idle f l d n (λ k b. h k (omega arith))
 
   -- one slot more, over another function
   pub filled-set : (f g : ℕ → A) (l : List A) (d : A) (n i : ℕ) → i < n → ((k : ℕ) → k < n → (k ≡ i → ⊥) → f k ≡ g k)

@@ -55,8 +55,8 @@ module _ (earliest : ℕ) where
       → latest earliest .read s at line ≡ found l (at + length (latest earliest .text l))
   latest-back Unbounded s rest at line p e = rw (ap (beginsWith (bytes "inf\n")) e ∙ begins-text (bytes "inf\n") rest) refl
   latest-back (Ticks n) s rest at line p e =
-      let small = ranged-small 0 1000 (lit< tt) n line (also-first (ranged 0 1000 n line)
-      (cond (ltb n earliest) (Refused (LatestBelowEarliest line)) Passed) p) in
+      let small =
+      ranged-small 0 1000 (lit< tt) n line (also-first (ranged 0 1000 n line) (cond (ltb n earliest) (Refused (LatestBelowEarliest line)) Passed) p) in
       let q = field-text n at true s rest small e in
       rw (number-no-word n at (at + length (field n true)) s q, q, p) refl
 
@@ -151,12 +151,8 @@ clean-back v =
     let places = v .0 in
     let n = min (v .1 .0) 32 in
     let m = map (row places .clean) (firstOf n noRow (v .1 .1 .1)) in
-    let few : length m ≤ 32 = omega (
-      arith,
-      length-map (firstOf n noRow (v .1 .1 .1)) (row places .clean),
-      length-first n noRow (v .1 .1 .1),
-      min-le-right (v .1 .0) 32,
-    ) in
+    let few : length m ≤ 32 =
+    omega (arith, length-map (firstOf n noRow (v .1 .1 .1)) (row places .clean), length-first n noRow (v .1 .1 .1), min-le-right (v .1 .0) 32) in
     let full = each-append Full m (replicate (32 - length m) noRow)
     (each-image Full (row places .clean) (full-row places) (firstOf n noRow (v .1 .1 .1))) (each-replicate Full noRow (refl, refl) (32 - length m)) in
     let e = rows-back places (v .1 .0) (starts places .clean (v .1 .1 .0)) (padTo 32 noRow m) (length-pad 32 noRow m few) full in

@@ -1,17 +1,15 @@
 -- Demand 3 of the engine's operations, and last of all demand 2, for every accepted net, every restart rule, and every order and run from the start
 -- marking with every clock at 0.
 -- The three demands beside their theorems: docs/DEMANDS.md. Each claim on an operation follows from the law of its definition in the crate timing.
-use Prim.Native.Nat.{ℕ, _≤_, _<_}
+use Prim.Native.Nat.{ℕ, _≤_}
 use native.Mathlib.Omega.{arith}
 use mathlib.Core.Path.{_≡_, refl, sym, ap}
 use mathlib.Core.Logic.{_↔_}
 use mathlib.Core.List.{List, []}
 use lib.ListN.{length}
-use Rattle.reply.specs.declared.Refusal.{Refusal}
-use Rattle.reply.specs.declared.Refusal.the-variants.{Untimable}
 use Rattle.reply.specs.declared.Checked.the-variants as checked
 use Rattle.reply.specs.declared.Checked.the-variants.{Passed}
-use Rattle.reply.specs.declared.Reply.the-variants.{Written, Refused}
+use Rattle.reply.specs.declared.Reply.the-variants.{Written}
 use Rattle.reply.specs.Respond.{Outcome, answer, Answered, replyTo}
 use Rattle.reply.proofs.Laws as reply-laws
 use Rattle.form.specs.Form.{found}
@@ -20,14 +18,11 @@ use Rattle.net.specs.declared.Net.{Net}
 use Rattle.net.specs.Net.{netCard}
 use Rattle.run.specs.declared.Run.{Run}
 use Rattle.run.specs.declared.Order.{Order}
-use Rattle.run.specs.Run.{runCard, orderCard, firingsOf, firesOf}
+use Rattle.run.specs.Run.{runCard, orderCard, firesOf}
 use Rattle.run.proofs.Ranges.{run-in-ranges}
-use Rattle.firing.specs.Semantics.{arcsOf, Restart, Timed, startMarking, ruleOf, Allowed}
+use Rattle.firing.specs.Semantics.{arcsOf, Restart, ruleOf}
 use Rattle.firing.specs.Replay.{replay}
-use Rattle.firing.specs.Tokens.{tokens}
 use Rattle.firing.proofs.Accept.{accepted-exactly, rule-restarting}
-use Rattle.timing.specs.Windows.{Timable}
-use Rattle.timing.specs.Claims.{FirstUntimable}
 use Rattle.timing.specs.Schedule.{Scheduled, schedule}
 use Rattle.timing.specs.Rounding.{roundedRun, timetableRun}
 use Rattle.timing.proofs.Timings.{ticks-exactly}
@@ -36,14 +31,15 @@ use Rattle.timing.proofs.Rounded.{fires-few, timetable-order, timetable-waits, 
 use Rattle.timing.proofs.Rounded.{rounded-instant, rounded-end, rounded-accepted, same-markings, rounded-checked, scheduled-within, scheduled-checked}
 use Rattle.cards.specs.Cards.{runChecked, orderChecked, runCards, orderCards}
 use Rattle.cards.proofs.Cards.{run-cards-passed, order-cards-passed}
-use Rattle.operations.specs.Replay.{replayOf, replayValues}
+use Rattle.operations.specs.Replay.{replayOf}
 use Rattle.operations.specs.Timetable.{scheduleText, timetableBy, timetableValues, timetableCards}
 use Rattle.operations.specs.Round.{roundBy, roundValues, roundCards}
-use Rattle.operations.specs.Claims.{WholeTickRun, EarliestRun, RoundedDown}
+use Rattle.operations.specs.Demands.{TicksExactlyParts, TimetableExactly, TokensFirst, UntimableExactlyAt, UntimableWhenNone, TimetableEarliest}
+use Rattle.operations.specs.Demands.{RoundExactly, RoundWhole, ReplayExactly}
 use Rattle.operations.proofs.Answers.{earliest-within, once-answer, once-answered, end-answered, schedule-answer, untimable-told, whole-tick-run}
 
 -- ---- (a) a timing in whole ticks exists exactly when one in parts does: any order, those that the tokens forbid included
-pub ticks-exactly-parts : (net : Net) (restarts : Restart) (order : List ℕ) (D : ℕ) → 0 < D → Timable net restarts 1 order ↔ Timable net restarts D order
+pub ticks-exactly-parts : TicksExactlyParts
 ticks-exactly-parts = ticks-exactly
 
 -- ---- over values and over cards the operations come to what they are under the rule of the memory named
@@ -66,29 +62,25 @@ module _ (net : Net) (restarts : Restart) (o : Order) (p : orderChecked net o �
   scheduled = schedule net restarts (firesOf o)
 
   -- ---- (b) a timetable is answered exactly when the order has a timing at some denominator
-  pub timetable-exactly : Answered (timetableBy net restarts o) ↔ ((D : ℕ) × (0 < D) × Timable net restarts D (firesOf o))
+  pub timetable-exactly : TimetableExactly net restarts o
   timetable-exactly = (
     λ a. let s = schedule-answer net o scheduled (a .0) (a .1) in (1, omega arith, (s .0, scheduled-timing net restarts (firesOf o) (s .0) (s .1))),
     λ t. let s = scheduled-exactly net restarts (firesOf o) (t .2 .1 .allowed) .1 t in (_, ap (scheduleText net o) (s .1)),
   )
 
   -- 5 and 6 come first, whatever the output
-  pub tokens-refused : (r : Refusal) → tokens net (firesOf o) (startMarking net) 0 ≡ checked.Refused r
-      → (out : List ℕ) → replyTo (timetableBy net restarts o) out ≡ Refused r
+  pub tokens-refused : TokensFirst net restarts o
   tokens-refused r e out = rw (schedule-refused net restarts (firesOf o) r e) refl
 
   -- the order is refused as untimable at k, whatever the output, exactly when the tokens allow it and k is the first firing up to which there is no timing
-  pub untimable-exactly-at : (k : ℕ) (out : List ℕ) → (replyTo (timetableBy net restarts o) out ≡ Refused (Untimable k))
-      ↔ ((tokens net (firesOf o) (startMarking net) 0 ≡ checked.Passed) × FirstUntimable net restarts (firesOf o) k)
+  pub untimable-exactly-at : UntimableExactlyAt net restarts o
   untimable-exactly-at k out =
       let told = untimable-told net o scheduled k out in
       let why = untimable-allowed net restarts (firesOf o) k in
       (λ e. why .0 (told .0 e), λ f. told .1 (why .1 f))
 
   -- it is refused as untimable exactly when it has no timing, of those orders that the tokens allow
-  pub untimable-when-none : tokens net (firesOf o) (startMarking net) 0 ≡ checked.Passed
-      → ((k : ℕ) × ((out : List ℕ) → replyTo (timetableBy net restarts o) out ≡ Refused (Untimable k)))
-      ↔ ((D : ℕ) → 0 < D → Timable net restarts D (firesOf o) → ⊥)
+  pub untimable-when-none : UntimableWhenNone net restarts o
   untimable-when-none e =
       let none = untimable-none net restarts (firesOf o) e in (
         λ u. none .0 (u .0, untimable-told net o scheduled (u .0) [] .0 (u .1 [])),
@@ -96,8 +88,7 @@ module _ (net : Net) (restarts : Restart) (o : Order) (p : orderChecked net o �
       )
 
   -- ---- (c) the timetable is the card of a whole-tick run, and the earliest at every denominator
-  pub timetable-earliest : (bytes : List ℕ) → timetableBy net restarts o ≡ answer bytes
-      → (r : Run) × WholeTickRun net restarts bytes r × EarliestRun net restarts o r
+  pub timetable-earliest : TimetableEarliest net restarts o
   unfolding timetableRun
   timetable-earliest bytes e =
       let order = firesOf o in
@@ -124,14 +115,13 @@ module _ (net : Net) (restarts : Restart) (o : Order) (p : orderChecked net o �
 
 module _ (net : Net) (restarts : Restart) (r : Run) (p : runChecked net r ≡ Passed) where
   -- ---- (d) the rounding is answered exactly when the run is accepted
-  pub round-exactly : Answered (roundBy net restarts r) ↔ (replay net restarts r .checked ≡ checked.Passed)
+  pub round-exactly : RoundExactly net restarts r
   round-exactly =
       let once = once-answered (replay net restarts r .checked) (answer (runCard (net .transitions) .text (roundedRun r))) in
       (λ a. once .0 a .0, λ e. once .1 (e, (_, refl)))
 
   -- and the answer is the card of a whole-tick run of the same order, with each instant and the end rounded down and the same marking after every firing
-  pub round-whole : (bytes : List ℕ) → roundBy net restarts r ≡ answer bytes
-      → (q : Run) × WholeTickRun net restarts bytes q × RoundedDown net restarts r q
+  pub round-whole : RoundWhole net restarts r
   unfolding roundedRun
   round-whole bytes e =
       let (accepted, text) = once-answer (replay net restarts r .checked) (answer (runCard (net .transitions) .text (roundedRun r))) bytes .0 e in
@@ -155,8 +145,7 @@ pub written-exactly : (o : Outcome) → Answered o ↔ ((n : ℕ) × ((out : Lis
 written-exactly = reply-laws.written-exactly
 
 -- ---- demand 2 through the operations: a replay is answered exactly when its run passes the check and the published semantics allows it
-pub replay-exactly : (net : Net) (r : Run) → Answered (replayValues net r)
-    ↔ ((runChecked net r ≡ Passed) × ((end : Timed) × Allowed net (ruleOf (arcsOf net) (r .memory)) (r .denominator) (firingsOf r) (r .rest) end))
+pub replay-exactly : ReplayExactly
 replay-exactly net r =
     let rule = ruleOf (arcsOf net) (r .memory) in
     let once = once-answered (runChecked net r) (replayOf net r) in

@@ -1,4 +1,5 @@
 pub mod Claims
+pub mod Demands
 pub mod Operation
 pub mod Process
 pub mod Replay

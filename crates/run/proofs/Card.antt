@@ -54,8 +54,8 @@ memory-short Intermediate = omega arith
 memory-short Atomic = omega arith
 
 memory-placed : Placed memory 1
-memory-placed = line-placed (λ r s at line. go r at line (beginsWith (bytes "intermediate\n") (drop at s))
-    (beginsWith (bytes "atomic\n") (drop at s))) (λ m. refl)
+memory-placed =
+    line-placed (λ r s at line. go r at line (beginsWith (bytes "intermediate\n") (drop at s)) (beginsWith (bytes "atomic\n") (drop at s))) (λ m. refl)
   where
     go : (r : Refusal) (at line : ℕ) (t u : Bool)
         → cond t (found Intermediate (at + length (bytes "intermediate\n")))
@@ -83,8 +83,8 @@ fire-format : (transitions : ℕ) → Format (transitions ≤ 32) (fire transiti
 fire-format transitions = listed-format (bytes "fire=") transitions (λ h. omega arith)
 
 firing-format : (transitions : ℕ) → Format (transitions ≤ 32) (firing transitions) 30 2
-firing-format transitions = held-format toFiring fromFiring (λ v. refl)
-    (pair-format (ranged-format (bytes "wait=") 0 10000000 (lit< tt)) (fire-format transitions))
+firing-format transitions =
+    held-format toFiring fromFiring (λ v. refl) (pair-format (ranged-format (bytes "wait=") 0 10000000 (lit< tt)) (fire-format transitions))
 
 steps-format : (transitions count : ℕ) → Format (transitions ≤ 32) (steps transitions count) 1935 129
 steps-format transitions count = pair-format (times-format count 64 noFiring (firing-format transitions)) (ranged-format (bytes "rest=") 0 10000000 (lit< tt))

@@ -33,6 +33,6 @@ run-clean transitions r fs n few e =
     let count = r .count in
     let all = min-eq-left few in
     let found = ap (firstOf count noFiring) e ∙ first-pad count 64 noFiring fs n in
-    let same : padTo 64 noFiring (map (firing transitions .clean) (firstOf (min count 64) noFiring (r .firings)))
-    ≡ r .firings = rw (all, found, map-id fs, e) refl in
+    let same : padTo 64 noFiring (map (firing transitions .clean) (firstOf (min count 64) noFiring (r .firings))) ≡ r .firings =
+    rw (all, found, map-id fs, e) refl in
     λ i. record { memory = r .memory; denominator = r .denominator; count = count; firings = same i; rest = r .rest }

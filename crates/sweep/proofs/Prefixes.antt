@@ -204,8 +204,8 @@ module _ (W : ℕ → Win) (n : ℕ) (few : n ≤ 64) (wf : Wellformed W n) (i :
   padded : n ≤ i → i ≤ n → x ≡ padTo 65 0 (take (suc n) x)
   padded l h =
       let t = judges-met l h in
-      let p : (j : ℕ) → instantAt (padTo 65 0 (take (suc n) x)) j
-      ≡ instantAt (take (suc n) x) j = getD-padded (take (suc n) x) (65 - length (take (suc n) x)) 0 in
+      let p : (j : ℕ) → instantAt (padTo 65 0 (take (suc n) x)) j ≡ instantAt (take (suc n) x) j =
+      getD-padded (take (suc n) x) (65 - length (take (suc n) x)) 0 in
       let u = s .under (instantAt (take (suc n) x)) (λ j b. t .feasible .each j (omega arith)) in
       let size : length (padTo 65 0 (take (suc n) x)) ≡ 65 = omega (
         arith,
@@ -223,8 +223,8 @@ module _ (W : ℕ → Win) (n : ℕ) (few : n ≤ 64) (wf : Wellformed W n) (i :
 
   pub answer-met : n ≤ i → i ≤ n → record { failed = 0; instants = x } ≡ earliestBy (solvePrefixes 1 W n)
   answer-met l h =
-      let e : metBy (take (suc n) x) ≡ solvePrefixes 1 W n = judge-unique 1 W n (metBy (take (suc n) x)) (solvePrefixes 1 W n) (judges-met l h)
-      (prefixes-right 1 W n wf) in
+      let e : metBy (take (suc n) x) ≡ solvePrefixes 1 W n =
+      judge-unique 1 W n (metBy (take (suc n) x)) (solvePrefixes 1 W n) (judges-met l h) (prefixes-right 1 W n wf) in
       ap (λ (y : List ℕ). record { failed = 0; instants = y }) (padded l h) ∙ ap earliestBy e
 
   pub answer-fails : i < n → Unmet W (i + 1) → record { failed = i + 1; instants = replicate 65 0 } ≡ earliestBy (solvePrefixes 1 W n)

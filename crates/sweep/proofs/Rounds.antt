@@ -148,8 +148,8 @@ module _ {W : ℕ → Win} {k : ℕ} where
     pub forth-small : (j : ℕ) → j ≤ k → instantAt z j ≤ 64 * 2 ^ 32
     forth-small j h =
         let most = 64 * 2 ^ 32 in
-        let all : (i : ℕ) → i ≤ k → instantAt x i ≤ most = λ i l. omega
-        (arith, rising k (instantAt x) (λ n m. s .follows n m .0) i l, s .level, s .entered .small) in
+        let all : (i : ℕ) → i ≤ k → instantAt x i ≤ most =
+        λ i l. omega (arith, rising k (instantAt x) (λ n m. s .follows n m .0) i l, s .level, s .entered .small) in
         let t =
         b .under (λ n. max (instantAt x n) most)
         (λ i l.

@@ -27,14 +27,8 @@ pub record Spreading (ws : List Window) (n : ℕ) (origin low : List ℕ) (bound
   pub small : (j : ℕ) → j < i → lowAt ws j < 2 ^ 32
 
 pub spreading-start : (ws : List Window) (n : ℕ) → Spreading ws n (replicate 64 0) (replicate 64 0) (replicate 64 false) (replicate 64 0) 0
-spreading-start ws n = record {
-  origins = fill-start _ _ _;
-  lows = fill-start _ _ _;
-  marks = fill-start _ _ _;
-  highs = fill-start _ _ _;
-  small = λ j
-      l. absurd (omega arith);
-}
+spreading-start ws n =
+    record { origins = fill-start _ _ _; lows = fill-start _ _ _; marks = fill-start _ _ _; highs = fill-start _ _ _; small = λ j l. absurd (omega arith) }
 
 module _ {ws : List Window} {n : ℕ} {origin low : List ℕ} {bounded : List Bool} {high : List ℕ} {i : ℕ} (s : Spreading ws n origin low bounded high i) where
   pub spreading-more : {o h : ℕ} {b : Bool} → i < n → o ≡ originAt ws i → b ≡ closedAt ws i → h ≡ highAt ws i → lowAt ws i < 2 ^ 32

@@ -136,8 +136,8 @@ module _ (net : Net) (restarts : Restart) (D : ℕ) (S : ℕ → ℕ) where
             (rw (tokens-pass net (st .marking) (f .fire) (n + 1) (g .is-enabled) (g .is-bounded)) (m .0), (there .0 (g .in-interval), m .1)),
         λ p.
             let t = tokens-passed net (st .marking) (f .fire) (n + 1) (also-first here rest (p .0)) in
-            let g : judged net D w (f .fire) (n + 1) ≡ Passed = passed net D w (f .fire) (n + 1)
-            (record { is-enabled = t .0; in-interval = there .1 (p .1 .0); is-bounded = t .1 }) in
+            let g : judged net D w (f .fire) (n + 1) ≡ Passed =
+            passed net D w (f .fire) (n + 1) (record { is-enabled = t .0; in-interval = there .1 (p .1 .0); is-bounded = t .1 }) in
             rw g (ih .1 (also-second here rest (p .0), p .1 .1)),
       )
 

@@ -116,8 +116,8 @@ module _ (r : Run) where
   -- nothing stands behind them
   pub rounded-clean : (transitions : ℕ) → runCard transitions .clean (roundedRun r) ≡ roundedRun r
   unfolding roundedRun
-  rounded-clean transitions = run-clean transitions (roundedRun r) (zipFirings (roundedWaits D (waitsOf fs)) (orderOf fs)) count-rounded
-      (min-le-right (r .count) 64) refl
+  rounded-clean transitions =
+      run-clean transitions (roundedRun r) (zipFirings (roundedWaits D (waitsOf fs)) (orderOf fs)) count-rounded (min-le-right (r .count) 64) refl
 
   pub rounded-order : orderOf (firingsOf (roundedRun r)) ≡ orderOf fs
   rounded-order = ap orderOf rounded-firings ∙ order-zip _ _ rounded-sizes
@@ -261,5 +261,5 @@ module _ (D : ℕ) (d : 0 < D) (waits : List ℕ) where
   pub clocks-near : (o i : ℕ) → o ≤ i
       → (D * (instants (roundedWaits D waits) i - instants (roundedWaits D waits) o) < instants waits i - instants waits o + D)
       × (instants waits i - instants waits o < D * (instants (roundedWaits D waits) i - instants (roundedWaits D waits) o) + D)
-  clocks-near o i h = rw (rounded-instants D d waits i, rounded-instants D d waits o)
-      (difference-near D d (instants waits o) (instants waits i) (instants-up waits o i h))
+  clocks-near o i h =
+      rw (rounded-instants D d waits i, rounded-instants D d waits o) (difference-near D d (instants waits o) (instants waits i) (instants-up waits o i h))

@@ -91,12 +91,8 @@ module _ (D : ℕ) (W : ℕ → Win) where
   prefixes-judged : (n : ℕ) → Wellformed W n → Judged n (solvePrefixes D W n)
   unfolding Judged
   prefixes-judged zero wf =
-      let b : Best 0 [] (0 ∷ []) = record {
-        size = refl;
-        starts = refl;
-        least =
-            record { sat = tt; under = λ S s i. omega (arith, getD-padded {A = ℕ} [] 1 0 i) };
-      } in
+      let b : Best 0 [] (0 ∷ []) =
+      record { size = refl; starts = refl; least = record { sat = tt; under = λ S s i. omega (arith, getD-padded {A = ℕ} [] 1 0 i) } } in
       (b, λ j l. let e : 0 ≡ j = omega arith in (0 ∷ [], subst (λ (k : ℕ). LeastInstants D W k (0 ∷ [])) e (best-least 0 (0 ∷ []) b)))
   prefixes-judged (suc n) wf = next-right n wf (solvePrefixes D W n) (prefixes-judged n (λ i l. wf i (omega arith)))
 

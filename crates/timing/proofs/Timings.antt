@@ -90,8 +90,8 @@ module _ (net : Net) (restarts : Restart) (order : List ℕ) where
 module _ (net : Net) (restarts : Restart) (order : List ℕ) (e : tokens net order (startMarking net) 0 ≡ Passed) (k : ℕ) (l : k ≤ length order) where
   prefix-window : (i : ℕ) → i < k → windows (windowsOf net restarts (take k order)) i ≡ windows (windowsOf net restarts order) i
   unfolding windowsOf
-  prefix-window i b = rw (windows-prefix net restarts k order (startState net))
-      (ap winOf (getD-take k (windowsFrom net restarts order (startState net)) i noWindow b))
+  prefix-window i b =
+      rw (windows-prefix net restarts k order (startState net)) (ap winOf (getD-take k (windowsFrom net restarts order (startState net)) i noWindow b))
 
   pub prefix-possible : (D : ℕ) → Timable net restarts D (take k order) ↔ Possible D (windows (windowsOf net restarts order)) k
   prefix-possible D =

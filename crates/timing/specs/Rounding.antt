@@ -36,11 +36,5 @@ roundedRun r =
 
 -- "A timetable is the same kind of card, with the order's memory and firings and with `rest=0`"
 unfoldable pub timetableRun : Memory → List ℕ → List ℕ → Run
-timetableRun memory order waits = record {
-  memory = memory;
-  denominator = 1;
-  count = length order;
-  firings = padTo 64 noFiring
-      (zipFirings waits order);
-  rest = 0;
-}
+timetableRun memory order waits =
+    record { memory = memory; denominator = 1; count = length order; firings = padTo 64 noFiring (zipFirings waits order); rest = 0 }

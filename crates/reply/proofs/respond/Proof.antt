@@ -9,18 +9,13 @@ use borrow.Author.Tests.{lt-ltb, le-ltb}
 use Rattle.reply.specs.declared.Reply.the-variants.{Written}
 use Rattle.reply.proofs.respond.Statement.{statement}
 use Rattle.reply.proofs.respond.Tie as tie
-use Rattle.reply.proofs.respond.Reads as reads
-use Rattle.reply.proofs.respond.Lts as lts
-use Rattle.bytes.proofs.copy.Reads as copy-reads
 
--- src/lib.rt:71:9
 returns : tie.Need-returns
 returns c =
     let a = c .before .before .before .args in
     let e = lt-ltb (length (a .out .now)) (length (a .text .now)) (c .if1 .taken) in
     record { reply = rw e; output = rw e }
 
--- src/lib.rt:67:1
 returns-2 : tie.Need-returns-2
 returns-2 c =
     let a = c .before .before .before .before .before .before .before .args in

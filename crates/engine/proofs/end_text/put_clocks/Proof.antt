@@ -8,8 +8,8 @@ use Rattle.engine.proofs.end_text.put_clocks.Statement.{statement}
 use Rattle.engine.proofs.end_text.put_clocks.Tie as tie
 
 abbrev Inv-loop : tie.InvT-loop
-Inv-loop out₀ at instant count flags since to₀ u₀ out to u = Putting (joined (clockLine flags since instant) count) (clockLine flags since instant)
-    count out₀ at out u to
+Inv-loop out₀ at instant count flags since to₀ u₀ out to u =
+    Putting (joined (clockLine flags since instant) count) (clockLine flags since instant) count out₀ at out u to
 
 abbrev μ-loop : tie.MeasureT-loop
 μ-loop out₀ at instant count flags since to₀ u₀ out to u = count - u
