@@ -3,7 +3,7 @@ use Prim.Native.Nat.{ℕ, zero, suc, _+_, _≤_, _<_}
 use native.Mathlib.Nat.{le-of-suc-le-suc, not-suc-le-zero, eq-or-lt-of-le, lt-trans, lt-suc-self}
 use native.Mathlib.Numerals.{add-one}
 use native.Mathlib.Omega.{arith}
-use mathlib.Core.Bool.{Bool, true, false, _&&_, and-false, and-true, and-eq-true-iff, not, _||_}
+use mathlib.Core.Bool.{Bool, true, false, _&&_, and-false, and-eq-true-iff, not, _||_}
 use mathlib.Core.Path.{_≡_, refl, _∙_, sym}
 use mathlib.Core.Logic.{⊎-elim}
 use borrow.Author.Tests.{not-true, not-false}
@@ -20,11 +20,6 @@ module _ (f : ℕ → Bool) where
   pub all-more : (n : ℕ) → allBelow f n ≡ true → f n ≡ true → allBelow f (n + 1) ≡ true
   unfolding allBelow
   all-more n a h = rw (add-one, a) h
-
-  -- what the last one that holds adds
-  pub all-last : (n : ℕ) → f n ≡ true → allBelow f (suc n) ≡ allBelow f n
-  unfolding allBelow
-  all-last n h = rw h (and-true (allBelow f n))
 
   last-fails : (p n : ℕ) → p ≡ n → f p ≡ false → (allBelow f n && f n) ≡ false
   last-fails p n q e = rw (← q, e) (and-false (allBelow f p))
@@ -87,26 +82,6 @@ module _ (f : ℕ → Bool) where
 
   pub any-none : (n : ℕ) → anyBelow f n ≡ false → (k : ℕ) → k < n → f k ≡ false
   any-none n e k l = not-true (f k) (all-at (λ i. not (f i)) k n (not-false (allBelow (λ i. not (f i)) n) e) l)
-
--- ---- What a loop keeps that asks a test of every number below a bound, without a way out: the answer of the numbers passed.
-
-pub record Asked (f : ℕ → Bool) (n : ℕ) (ok : Bool) (p : ℕ) : Type 0 where
-  pub within : p ≤ n
-  pub so-far : ok ≡ allBelow f p
-
-pub asked-start : (f : ℕ → Bool) (n : ℕ) → Asked f n true 0
-unfolding allBelow
-asked-start f n = record { within = omega arith; so-far = refl }
-
-module _ {f : ℕ → Bool} {n : ℕ} {ok : Bool} {p : ℕ} (s : Asked f n ok p) (l : p < n) where
-  pub asked-fails : f p ≡ false → Asked f n false (p + 1)
-  asked-fails e = record { within = omega arith; so-far = sym (all-fails f p (p + 1) e (omega arith)) }
-
-  pub asked-holds : f p ≡ true → Asked f n ok (p + 1)
-  asked-holds e = record { within = omega arith; so-far = s .so-far ∙ sym (rw add-one (all-last f p e)) }
-
-pub asked-done : {f : ℕ → Bool} {n : ℕ} {ok : Bool} {p : ℕ} → Asked f n ok p → n ≤ p → ok ≡ allBelow f n
-asked-done {f} {n} {ok} {p} s l = let e : p ≡ n = omega (arith, s .within) in rw e at (s .so-far)
 
 -- ---- A scan that is left at the first failure has found no failure so far.
 

@@ -1,6 +1,5 @@
 pub mod Intervals
 pub mod Stored
-pub mod OneDigit
 pub mod Tables
 pub mod Read
 pub mod Check

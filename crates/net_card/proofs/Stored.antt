@@ -12,7 +12,6 @@ use lib.Dec.{eqb}
 use lib.ListN.{length, getD, set, length-set}
 use lib.Seq.{getD-set-same, getD-set-other}
 use Rattle.laws.specs.Slots.{firstOf, padTo, first-pad, last-left}
-use Rattle.laws.specs.Tables.{tabled}
 use Rattle.reply.specs.declared.Refusal.the-variants.{Malformed, OutOfRange}
 use Rattle.reply.specs.declared.Checked.the-variants.{Passed, Refused}
 use Rattle.text.specs.declared.NumberRead.the-variants.{Value, NoNumber}
@@ -62,28 +61,6 @@ spread-at (n ∷ ns) slot step l (suc p) one b h =
     rw (← e) (spread-at ns (slot + step) step (set l slot n) p one (le-of-suc-le-suc b) (omega (arith, length-set l slot n)))
 
 -- ---- numbers that are known beforehand
--- of sixteen numbers, each told by its index, i are stored
-pub record Laying (f : ℕ → ℕ) (first step : ℕ) (old l : List ℕ) (i : ℕ) : Type 0 where
-  pub within : i ≤ 16
-  pub rest : spread (tabled f 0 16) first step old ≡ spread (tabled f i (16 - i)) (first + step * i) step l
-
-pub lay-start : (f : ℕ → ℕ) (first step : ℕ) (old : List ℕ) → Laying f first step old old 0
-lay-start f first step old =
-    let e : first + step * 0 ≡ first = omega arith in
-    record { within = omega arith; rest = rw e refl }
-
-module _ {f : ℕ → ℕ} {first step : ℕ} {old l : List ℕ} {i : ℕ} (w : Laying f first step old l i) where
-  pub lay-more : i < 16 → Laying f first step old (set l (first + step * i) (f i)) (i + 1)
-  unfolding spread
-  lay-more h =
-      let one : 16 - i ≡ suc (16 - (i + 1)) = omega arith in
-      record { within = omega arith; rest = w .rest ∙ rw (one, ← slot-more first step i, add-one i) refl }
-
-  pub lay-done : 16 ≤ i → l ≡ spread (tabled f 0 16) first step old
-  unfolding spread
-  lay-done h =
-      let none : 16 - i ≡ 0 = omega arith in
-      sym (w .rest ∙ rw none refl)
 
 -- ---- numbers that are read
 -- what is left of a list: k numbers, the first with this slot; `wide` says that one before them was too large

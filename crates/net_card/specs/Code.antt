@@ -1,17 +1,13 @@
 -- What the functions of this crate return, for what the forms find.
-use Prim.Native.Nat.{ℕ, _+_, _-_, _*_}
-use mathlib.Core.Bool.{Bool, _&&_}
+use Prim.Native.Nat.{ℕ, _+_, _*_}
 use mathlib.Core.List.{List, [], _∷_}
-use lib.Dec.{leb}
-use lib.ListN.{length, getD, set, replicate}
-use Rattle.laws.specs.Tests.{allBelow}
+use lib.ListN.{set, replicate}
 use Rattle.laws.specs.Slots.{firstOf}
-use Rattle.laws.specs.Tables.{tabled}
 use Rattle.text.specs.Key.{bytes}
 use Rattle.form.specs.declared.LineRead.{LineRead}
 use Rattle.form.specs.declared.LineRead.the-variants.{Next, Stopped}
 use Rattle.form.specs.Form.{Found, found, refused, andThen, Form, keyed, chain}
-use Rattle.form.specs.Line.{ranged, number, itemsText}
+use Rattle.form.specs.Line.{ranged, number}
 use Rattle.form.specs.Code.{lineRead, valueOr}
 use Rattle.net.specs.declared.Latest.{Latest}
 use Rattle.net.specs.declared.Transition.{Transition}
@@ -59,26 +55,6 @@ storedIn to l f = andThen f (λ ns next. found (spread (firstOf (to .count) 0 ns
 abbrev pub storedAs : ℕ → ℕ → List ℕ → List ℕ → Found (List ℕ × List ℕ) → Found (List ℕ × List ℕ)
 storedAs places t take give f =
     andThen f (λ w next. found (spread (firstOf places 0 (w .0)) t 32 take, spread (firstOf places 0 (w .1)) (16 * t) 1 give) next)
-
--- the byte i places behind a position does not lie below that of a text
-abbrev pub notBelow : List ℕ → ℕ → List ℕ → ℕ → Bool
-notBelow s at least i = leb (getD least i 0) (getD s (at + i) 0)
-
--- or above
-abbrev pub notAbove : List ℕ → ℕ → List ℕ → ℕ → Bool
-notAbove s at most i = leb (getD s (at + i) 0) (getD most i 0)
-
--- sixteen numbers of one digit stand at a position, with the line's end: no byte lies below that of sixteen zeros, and none above that of sixteen nines
-unfoldable pub shortAt : List ℕ → ℕ → Bool
-shortAt s at = leb (at + 32) (length s) && allBelow (notBelow s at (itemsText (replicate 16 0))) 32 && allBelow (notAbove s at (itemsText (replicate 16 9))) 32
-
--- number i of such a list: each is a digit with its separator, two bytes
-abbrev pub digitAt : List ℕ → ℕ → ℕ → ℕ
-digitAt s at i = getD s (at + 2 * i) 0 - 48
-
--- the numbers of such a list
-unfoldable pub shortItems : List ℕ → ℕ → List ℕ
-shortItems s at = tabled (digitAt s at) 0 16
 
 -- ---- a net
 -- the net of a refused card

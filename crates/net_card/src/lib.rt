@@ -13,9 +13,7 @@ ghost use mathlib.Core.Bool.{true};
 ghost use mathlib.Core.List.{_++_};
 ghost use Prim.Native.Nat.{_+_, _*_, _≤_, _<_, min};
 ghost use denote.Ref.{ptr};
-ghost use lib.Dec.{leb};
 ghost use lib.ListN.{length, getD, drop, replicate};
-ghost use Rattle.laws.specs.Tests.{allBelow};
 ghost use Rattle.laws.specs.Arrays.{filled};
 ghost use Rattle.laws.specs.Writing.{Puts};
 ghost use Rattle.reply.specs.Respond.{Responded};
@@ -24,7 +22,7 @@ ghost use Rattle.form.specs.Form.{keyed, refused};
 ghost use Rattle.form.specs.Line.{items};
 ghost use Rattle.net.specs.Net.{latest, latestChecked, latestText, weights, starts, rows, rowsOf, body, netCard, netText};
 ghost use Rattle.net_card.specs.Code.{intervalLines, intervalRead, boundsRead};
-ghost use Rattle.net_card.specs.Code.{foundIn, spread, storedIn, storedAs, shortAt, shortItems};
+ghost use Rattle.net_card.specs.Code.{foundIn, storedIn, storedAs};
 ghost use Rattle.net_card.specs.Code.{netRead, behindCounts, started, remainderStart};
 
 // A transition's interval and the position behind its two lines, or why there is none.
@@ -126,68 +124,6 @@ fn interval_lines(s: &[u8], at: usize, line: usize) -> IntervalRead
     }
 }
 
-// Whether none of the 32 bytes at a position lies below that of a text. Without a way out of the loop, several are compared at once.
-fn none_below(s: &[u8], at: usize, least: &[u8]) -> bool
-    requires { ⌜ (at + 32 ≤ length (now s)) × (length (now least) ≡ 32) ⌝ }
-    ensures { λ r. ⌜ r ≡ allBelow (λ i. leb (getD (now (least .entry)) i 0) (getD (now (s .entry)) (at + i) 0)) 32 ⌝ }
-{
-    let mut ok = true;
-    let mut i: usize = 0;
-    while i < 32 {
-        if s[at + i] < least[i] {
-            ok = false;
-        }
-        i += 1;
-    }
-    ok
-}
-
-// Whether none of them lies above that of a text.
-fn none_above(s: &[u8], at: usize, most: &[u8]) -> bool
-    requires { ⌜ (at + 32 ≤ length (now s)) × (length (now most) ≡ 32) ⌝ }
-    ensures { λ r. ⌜ r ≡ allBelow (λ i. leb (getD (now (s .entry)) (at + i) 0) (getD (now (most .entry)) i 0)) 32 ⌝ }
-{
-    let mut ok = true;
-    let mut i: usize = 0;
-    while i < 32 {
-        if most[i] < s[at + i] {
-            ok = false;
-        }
-        i += 1;
-    }
-    ok
-}
-
-// Whether a list of sixteen numbers of one digit stands at a position, with the line's end.
-fn all_short(s: &[u8], at: usize) -> bool
-    ensures { λ r. ⌜ r ≡ shortAt (now (s .entry)) at ⌝ }
-{
-    if s.len() <= at {
-        return false;
-    }
-    if s.len() - at < 32 {
-        return false;
-    }
-    if none_below(s, at, b"0,0,0,0,0,0,0,0,0,0,0,0,0,0,0,0\n") {
-        return none_above(s, at, b"9,9,9,9,9,9,9,9,9,9,9,9,9,9,9,9\n");
-    }
-    false
-}
-
-// Stores the numbers of such a list.
-fn store_short(s: &[u8], at: usize, table: &mut [u8; 512], to: Slots)
-    requires { ⌜ (shortAt (now s) at ≡ true) × (to .first + to .step * 15 < 512) ⌝ }
-    ensures { λ _. ⌜ now (table .exit) ≡ spread (shortItems (now (s .entry)) at) (to .first) (to .step) (now (table .entry)) ⌝ }
-{
-    let first = to.first;
-    let step = to.step;
-    let mut i: usize = 0;
-    while i < 16 {
-        table[first + step * i] = s[at + 2 * i] - 48;
-        i += 1;
-    }
-}
-
 // Reads numbers joined by commas and the line's end, and stores them; the form of the whole line comes before the ranges.
 fn store_items(s: &[u8], at: usize, line: usize, table: &mut [u8; 512], to: Slots) -> LineRead
     requires { ⌜ (to .count ≤ 16) × (to .first + to .step * 15 < 512) ⌝ }
@@ -218,7 +154,7 @@ fn store_items(s: &[u8], at: usize, line: usize, table: &mut [u8; 512], to: Slot
     LineRead::Next(next)
 }
 
-// A line with a key and a list of weights, which are stored. Sixteen numbers of one digit, as in most rows of a large net, are read as a whole.
+// A line with a key and a list of weights, which are stored.
 fn weights_line(
     s: &[u8],
     at: usize,
@@ -232,14 +168,7 @@ fn weights_line(
         storedIn to (now (table .entry)) (keyed (now (key .entry)) (items (to .count) 16 0 255) .read (now (s .entry)) at line) ⌝ }
 {
     if text::begins_at(s, at, key) {
-        let from = at + key.len();
-        if to.count == 16 {
-            if all_short(s, from) {
-                store_short(s, from, &mut *table, to);
-                return LineRead::Next(from + 32);
-            }
-        }
-        store_items(s, from, line, &mut *table, to)
+        store_items(s, at + key.len(), line, table, to)
     } else {
         LineRead::Stopped(Refusal::Malformed(line))
     }
