@@ -4,7 +4,7 @@ use net::Net;
 ghost use mathlib.Core.Path.{_≡_};
 ghost use mathlib.Core.Bool.{true, cond};
 ghost use mathlib.Core.List.{_++_};
-ghost use Prim.Native.Nat.{_-_, _≤_, min};
+ghost use Prim.Native.Nat.{_≤_};
 ghost use Rattle.laws.specs.Writing.{joined, Puts};
 ghost use Rattle.text.specs.Key.{bytes};
 ghost use Rattle.text.specs.Decimal.{field};
@@ -23,20 +23,6 @@ fn put_clock(out: &mut [u8], at: usize, on: bool, clock: u64) -> usize
     }
 }
 
-// What a clock shows at an instant.
-fn elapsed(instant: u64, since: u64) -> u64
-    ensures { λ r. ⌜ r ≡ instant - since ⌝ }
-{
-    if instant < since { 0 } else { instant - since }
-}
-
-// The lower of two counts.
-fn least(a: usize, b: usize) -> usize
-    ensures { λ r. ⌜ r ≡ min a b ⌝ }
-{
-    if a < b { a } else { b }
-}
-
 // The lines of the first clocks written to a position; the position behind them.
 fn put_clocks(
     out: &mut [u8],
@@ -52,7 +38,7 @@ fn put_clocks(
     let mut to = at;
     let mut u: usize = 0;
     while u < count {
-        to = put_clock(&mut *out, to, flags[u], elapsed(instant, since[u]));
+        to = put_clock(&mut *out, to, flags[u], steps::elapsed(instant, since[u]));
         u += 1;
     }
     to
@@ -66,5 +52,12 @@ pub(crate) fn put_end(out: &mut [u8], net: Net, st: State) -> usize
     let since = st.since;
     let flags = steps::enabled_flags(&net.take, net.places, net.transitions, &marking);
     let to = form::put_items_line(&mut *out, 0, b"end=", marking, net.places);
-    put_clocks(out, to, flags, since, st.now, least(net.transitions, 32))
+    put_clocks(
+        out,
+        to,
+        flags,
+        since,
+        st.now,
+        steps::least(net.transitions, 32),
+    )
 }

@@ -95,14 +95,12 @@ pub fn replay_cards(input: &[u8], out: &mut [u8]) -> Reply
     ensures { λ r. ⌜ Responded (replayCards (now (input .entry))) (now (out .entry)) r (now (out .exit)) ⌝ }
 {
     let n = net_card::read_net(input);
-    let net = n.net;
     let net_read = n.read;
-    let r = run_card::run_behind(input, net_read, net.transitions);
-    let run = r.run;
+    let r = run_card::run_behind(input, net_read, n.net.transitions);
     let read = r.read;
     match read {
         LineRead::Stopped(why) => Reply::Refused(why),
-        LineRead::Next(_) => replay_checked(net, run, out),
+        LineRead::Next(_) => replay_checked(n.net, r.run, out),
     }
 }
 
@@ -115,10 +113,7 @@ fn round_checked(net: Net, run: Run, out: &mut [u8]) -> Reply
     let c = p.checked;
     match c {
         Checked::Refused(r) => Reply::Refused(r),
-        Checked::Passed => {
-            let rounded = schedule::rounded_run(run);
-            respond_run(rounded, out)
-        }
+        Checked::Passed => respond_run(schedule::rounded_run(run), out),
     }
 }
 
@@ -138,14 +133,12 @@ pub fn round_cards(input: &[u8], out: &mut [u8]) -> Reply
     ensures { λ r. ⌜ Responded (roundCards (now (input .entry))) (now (out .entry)) r (now (out .exit)) ⌝ }
 {
     let n = net_card::read_net(input);
-    let net = n.net;
     let net_read = n.read;
-    let r = run_card::run_behind(input, net_read, net.transitions);
-    let run = r.run;
+    let r = run_card::run_behind(input, net_read, n.net.transitions);
     let read = r.read;
     match read {
         LineRead::Stopped(why) => Reply::Refused(why),
-        LineRead::Next(_) => round_checked(net, run, out),
+        LineRead::Next(_) => round_checked(n.net, r.run, out),
     }
 }
 
@@ -158,10 +151,7 @@ fn timetable_checked(net: Net, order: Order, out: &mut [u8]) -> Reply
     let c = t.checked;
     match c {
         Checked::Refused(r) => Reply::Refused(r),
-        Checked::Passed => {
-            let run = t.run;
-            respond_run(run, out)
-        }
+        Checked::Passed => respond_run(t.run, out),
     }
 }
 
@@ -181,14 +171,12 @@ pub fn timetable_cards(input: &[u8], out: &mut [u8]) -> Reply
     ensures { λ r. ⌜ Responded (timetableCards (now (input .entry))) (now (out .entry)) r (now (out .exit)) ⌝ }
 {
     let n = net_card::read_net(input);
-    let net = n.net;
     let net_read = n.read;
-    let o = run_card::order_behind(input, net_read, net.transitions);
-    let order = o.order;
+    let o = run_card::order_behind(input, net_read, n.net.transitions);
     let read = o.read;
     match read {
         LineRead::Stopped(why) => Reply::Refused(why),
-        LineRead::Next(_) => timetable_checked(net, order, out),
+        LineRead::Next(_) => timetable_checked(n.net, o.order, out),
     }
 }
 
@@ -221,13 +209,11 @@ pub fn process_cards(input: &[u8], out: &mut [u8]) -> Reply
     ensures { λ r. ⌜ Responded (processCards (now (input .entry))) (now (out .entry)) r (now (out .exit)) ⌝ }
 {
     let n = net_card::read_net(input);
-    let net = n.net;
     let net_read = n.read;
-    let r = run_card::run_behind(input, net_read, net.transitions);
-    let run = r.run;
+    let r = run_card::run_behind(input, net_read, n.net.transitions);
     let read = r.read;
     match read {
         LineRead::Stopped(why) => Reply::Refused(why),
-        LineRead::Next(_) => process_checked(net, run, out),
+        LineRead::Next(_) => process_checked(n.net, r.run, out),
     }
 }

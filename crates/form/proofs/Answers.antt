@@ -1,13 +1,12 @@
--- What a reader of this crate returned, as what its form finds: the two cases of `Found` are told by the two variants of each answer. Forms
--- in a row are read from what each of them finds. And what is replied with a text that was written.
-use Prim.Native.Nat.{ℕ, _+_, _*_, _≤_, _<_}
+-- What a reader of this crate returned, as what its form finds: the two cases of `Found` are told by the two variants of each answer; what two
+-- forms in a row found, by parts. And what is replied with a text that was written.
+use Prim.Native.Nat.{ℕ, _+_, _*_}
 use native.Mathlib.Nat.{mul-suc}
 use native.Mathlib.Omega.{arith}
 use mathlib.Core.Path.{_≡_, ap, _∙_}
 use mathlib.Core.Bool.{true, false}
 use mathlib.Core.List.{List, [], _∷_}
 use lib.ListN.{length, take, drop}
-use borrow.Author.Tests.{le-leb, lt-leb}
 use Rattle.laws.specs.Writing.{front-text, Wrote}
 use Rattle.laws.specs.Slots.{firstOf, length-first}
 use Rattle.reply.specs.declared.Refusal.{Refusal}
@@ -20,7 +19,7 @@ use Rattle.text.specs.Key.{beginsWith}
 use Rattle.form.specs.declared.NumberLine.the-variants.{Value, Refused}
 use Rattle.form.specs.declared.LineRead.{LineRead}
 use Rattle.form.specs.declared.LineRead.the-variants.{Next, Stopped}
-use Rattle.form.specs.Form.{Found, found, refused, Form, keyed, chain, linesOf, exactly, alone}
+use Rattle.form.specs.Form.{Found, found, refused, Form, keyed, chain, linesOf, exactly}
 use Rattle.form.specs.Code.{numberLine, lineRead, valueOr}
 use Rattle.form.proofs.Found.{found-value, found-place, then-found}
 
@@ -50,18 +49,6 @@ module _ {A : Type 0} (key : List ℕ) (f : Form A) (s : List ℕ) (at line : �
   pub keyed-missing : beginsWith key (drop at s) ≡ false → keyed key f .read s at line ≡ refused (Malformed line)
   keyed-missing e = rw e
 
--- one form behind another
-module _ {A B : Type 0} (f : Form A) (g : A → Form B) (s : List ℕ) (at line : ℕ) where
-  pub chain-stopped : {r : Refusal} → f .read s at line ≡ refused r → chain f g .read s at line ≡ refused r
-  chain-stopped e = rw e
-
-  module _ {a : A} {next : ℕ} (e : f .read s at line ≡ found a next) where
-    pub chain-then-stopped : {r : Refusal} → g a .read s next (line + f .lines a) ≡ refused r → chain f g .read s at line ≡ refused r
-    chain-then-stopped e′ = rw (e, e′)
-
-    pub chain-found : {b : B} {end : ℕ} → g a .read s next (line + f .lines a) ≡ found b end → chain f g .read s at line ≡ found (a, b) end
-    chain-found e′ = rw (e, e′)
-
 -- how many lines n parts are, of which each has k
 lines-each : {A : Type 0} (f : Form A) (k : ℕ) → ((a : A) → f .lines a ≡ k) → (l : List A) → linesOf f l ≡ k * length l
 unfolding linesOf
@@ -86,18 +73,6 @@ module _ {A B : Type 0} (f : Form A) (g : A → Form B) (s : List ℕ) (at line 
       let u = then-found (f .read s at line) _ e in
       let x = then-found (g (u .value) .read s (u .place) (line + f .lines (u .value))) _ (u .then) in
       parts-same (x .then) (record { place = u .place; first = u .first; second = x .first })
-
--- a card behind which nothing may follow
-module _ {A : Type 0} (f : Form A) (s : List ℕ) where
-  pub alone-stopped : {r : Refusal} → f .read s 0 1 ≡ refused r → alone f s ≡ refused r
-  alone-stopped e = rw e
-
-  module _ {a : A} {next : ℕ} (e : f .read s 0 1 ≡ found a next) where
-    pub alone-whole : length s ≤ next → alone f s ≡ found a next
-    alone-whole h = rw (e, le-leb (length s) next h)
-
-    pub alone-followed : next < length s → alone f s ≡ refused (Malformed (1 + f .lines a))
-    alone-followed h = rw (e, lt-leb (length s) next h)
 
 -- the reply with a text that was written to the front of a buffer
 pub text-answered : {text s : List ℕ} {r : Reply} {out buffer written : List ℕ} {n : ℕ} → Wrote buffer 0 text n written

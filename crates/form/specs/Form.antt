@@ -111,6 +111,10 @@ held to from f =
       clean = λ b. to (f .clean (from b));
     }
 
--- a whole card, behind which nothing may follow (the place of what follows is one past the last line)
+-- what was found, where nothing follows it (the place of what follows is one past the last line)
+abbrev pub ended : {A : Type 0} → Form A → List ℕ → Found A → Found A
+ended f s read = andThen read (λ a next. cond (leb (length s) next) (found a next) (refused (Malformed (1 + f .lines a))))
+
+-- a whole card, behind which nothing may follow
 abbrev pub alone : {A : Type 0} → Form A → List ℕ → Found A
-alone f s = andThen (f .read s 0 1) (λ a next. cond (leb (length s) next) (found a next) (refused (Malformed (1 + f .lines a))))
+alone f s = ended f s (f .read s 0 1)

@@ -294,8 +294,7 @@ module _ (s : List ℕ) where
       pub net-read : behindCounts p t (body p t .read s to 3) ≡ netRead (netCard .read s 0 1)
       net-read = rw (number-found placesLine e, number-found transitionsLine e′) (counted-together p t (body p t .read s to 3))
 
-      pub counts-small : (p ≤ 16) × (t ≤ 32)
-      counts-small = (
-        ranged-read (bytes "places=") 1 16 (lit< tt) p s 0 next 1 (number-found placesLine e) .1,
-        ranged-read (bytes "transitions=") 1 32 (lit< tt) t s next to 2 (number-found transitionsLine e′) .1,
-      )
+      pub counts-small : (1 ≤ p) × (p ≤ 16) × (t ≤ 32)
+      counts-small =
+          let h = ranged-read (bytes "places=") 1 16 (lit< tt) p s 0 next 1 (number-found placesLine e) in
+          (h .0, h .1, ranged-read (bytes "transitions=") 1 32 (lit< tt) t s next to 2 (number-found transitionsLine e′) .1)

@@ -1,14 +1,14 @@
--- A list of numbers that is stored while it is read: the state of the loop, which says the whole by what is left. A number that is too large is
--- remembered, and not stored; the line is then refused, so what the array holds does not matter.
+-- A list of numbers that is stored while it is read: the state of the loop, which says the whole by what is left. That a number is too large is
+-- remembered, and it is not stored; the line is then refused, so what the array holds does not matter.
 use Prim.Native.Nat.{ℕ, zero, suc, _+_, _-_, _*_, _≤_, _<_, suc-le-suc}
 use native.Mathlib.Nat.{mul-suc, mul-le-mul-left, min-eq-left, sub-zero, le-of-suc-le-suc, not-suc-le-zero}
 use native.Mathlib.Numerals.{add-one}
 use native.Mathlib.Omega.{arith}
-use mathlib.Core.Bool.{Bool, true, false, cond, not, _&&_}
+use mathlib.Core.Bool.{Bool, true, false, cond, _&&_, and-true}
 use mathlib.Core.List.{List, [], _∷_}
 use mathlib.Core.Path.{_≡_, refl, sym, _∙_}
-use borrow.Author.Tests.{le-leb, lt-leb}
-use lib.Dec.{eqb}
+use borrow.Author.Tests.{le-leb, eq-eqb, ne-eqb}
+use lib.Dec.{eqb, leb}
 use lib.ListN.{length, getD, set, length-set}
 use lib.Seq.{getD-set-same, getD-set-other}
 use Rattle.laws.specs.Slots.{firstOf, padTo, first-pad, last-left}
@@ -60,26 +60,32 @@ spread-at (n ∷ ns) slot step l (suc p) one b h =
     let e = next-slot slot step p in
     rw (← e) (spread-at ns (slot + step) step (set l slot n) p one (le-of-suc-le-suc b) (omega (arith, length-set l slot n)))
 
--- ---- numbers that are known beforehand
-
 -- ---- numbers that are read
--- what is left of a list: k numbers, the first with this slot; `wide` says that one before them was too large
+-- whether the next number is the last
+pub not-last : (i n : ℕ) → i + 1 < n → eqb (i + 1) n ≡ false
+not-last i n h = ne-eqb (i + 1) n (λ e. omega arith)
+
+pub is-last : (i n : ℕ) → i < n → n ≤ i + 1 → eqb (i + 1) n ≡ true
+is-last i n h l = eq-eqb (i + 1) n (omega arith)
+
+-- what is left of a list: k numbers, the first with this slot; `narrow` says that those before them fit a byte
 abbrev left : Bool → ℕ → List ℕ → ℕ → ℕ → ℕ → ℕ → List ℕ → Found (List ℕ)
-left wide k s at line slot step l =
-    andThen (itemsAt k s at line) (λ ns next. foundIf (cond (not wide && allRanged 0 255 ns) Passed (Refused (OutOfRange line))) (spread ns slot step l) next)
+left narrow k s at line slot step l =
+    andThen (itemsAt k s at line) (λ ns next. foundIf (cond (narrow && allRanged 0 255 ns) Passed (Refused (OutOfRange line))) (spread ns slot step l) next)
 
 -- of a list that stands from `at` on, i numbers are read, and the next one stands at `next`
-pub record Storing (to : Slots) (s : List ℕ) (at line : ℕ) (old : List ℕ) (wide : Bool) (l : List ℕ) (next i : ℕ) : Type 0 where
+pub record Storing (to : Slots) (s : List ℕ) (at line : ℕ) (old : List ℕ) (narrow : Bool) (l : List ℕ) (slot next i : ℕ) : Type 0 where
   pub within : i ≤ to .count
-  pub rest : storedIn to old (items (to .count) 16 0 255 .read s at line) ≡ left wide (to .count - i) s next line (to .first + to .step * i) (to .step) l
+  pub place : slot ≡ to .first + to .step * i
+  pub rest : storedIn to old (items (to .count) 16 0 255 .read s at line) ≡ left narrow (to .count - i) s next line slot (to .step) l
 
 module _ (to : Slots) (s : List ℕ) (at line : ℕ) (old : List ℕ) where
-  pub storing-start : to .count ≤ 16 → Storing to s at line old false old at 0
+  pub storing-start : to .count ≤ 16 → Storing to s at line old true old (to .first) at 0
   storing-start few =
-      let e : to .first + to .step * 0 ≡ to .first = omega arith in
       record {
         within = omega arith;
-        rest = rw (min-eq-left few, e, sub-zero (to .count)) (then-then (itemsAt (to .count) s at line) _ _ ∙ then-same (itemsAt (to .count) s at line) _ _
+        place = omega arith;
+        rest = rw (min-eq-left few, sub-zero (to .count)) (then-then (itemsAt (to .count) s at line) _ _ ∙ then-same (itemsAt (to .count) s at line) _ _
             (λ ns next e′. go ns next (items-there (to .count) ns s at next line e′ .count) (allRanged 0 255 ns)));
       }
     where
@@ -90,57 +96,47 @@ module _ (to : Slots) (s : List ℕ) (at line : ℕ) (old : List ℕ) where
       go ns next e true = rw (first-pad (to .count) 16 0 ns e) refl
       go ns next e false = refl
 
-module _ {to : Slots} {s : List ℕ} {at line : ℕ} {old : List ℕ} {wide : Bool} {l : List ℕ} {next i : ℕ} (w : Storing to s at line old wide l next i) where
+module _ {to : Slots} {s old l : List ℕ} {at line slot next i : ℕ} {narrow : Bool} (w : Storing to s at line old narrow l slot next i) where
   -- the answer for the whole list
   abbrev answer : Found (List ℕ)
   answer = storedIn to old (items (to .count) 16 0 255 .read s at line)
 
-  module _ (h : i < to .count) where
-    -- the next number, told to be the last by the index
+  module _ (h : i < to .count) {last : Bool} (t : eqb (i + 1) (to .count) ≡ last) where
+    -- the next number
     next-item : itemsAt (to .count - i) s next line
-        ≡ andThen (formed line (fieldAt s next (eqb (i + 1) (to .count))))
-        (λ n after. andThen (itemsAt (to .count - (i + 1)) s after line) (λ ns end. found (n ∷ ns) end))
+        ≡ andThen (formed line (fieldAt s next last)) (λ n after. andThen (itemsAt (to .count - (i + 1)) s after line) (λ ns end. found (n ∷ ns) end))
     unfolding itemsAt
     next-item =
         let one : to .count - i ≡ suc (to .count - (i + 1)) = omega arith in
-        rw (one, last-left i (to .count) h) refl
+        rw (one, ← t, last-left i (to .count) h) refl
 
-    pub storing-missing : fieldAt s next (eqb (i + 1) (to .count)) ≡ NoNumber → refused (Malformed line) ≡ answer
+    pub storing-missing : fieldAt s next last ≡ NoNumber → refused (Malformed line) ≡ answer
     storing-missing e = sym (w .rest ∙ rw (next-item, e) refl)
 
-    module _ {n after : ℕ} (e : fieldAt s next (eqb (i + 1) (to .count)) ≡ Value n after) where
-      pub storing-store : n ≤ 255 → Storing to s at line old wide (set l (to .first + to .step * i) n) after (i + 1)
-      unfolding spread allRanged
-      storing-store b =
-          record {
-            within = omega arith;
-            rest = w .rest ∙ rw (next-item, e) (then-then (itemsAt (to .count - (i + 1)) s after line) _ _
-                ∙ then-same (itemsAt (to .count - (i + 1)) s after line) _ _
-                (λ ns end z. rw (le-leb 0 n (omega arith), le-leb n 255 b, slot-more (to .first) (to .step) i) refl));
-          }
+    pub storing-more : {n after : ℕ} → fieldAt s next last ≡ Value n after
+        → Storing to s at line old (narrow && leb n 255) (cond (leb n 255) (set l slot n) l) (slot + to .step) after (i + 1)
+    unfolding spread allRanged
+    storing-more {n} {after} e =
+        record {
+          within = omega arith;
+          place = rw (w .place) (slot-more (to .first) (to .step) i);
+          rest = w .rest ∙ rw (next-item, e) (then-then (itemsAt (to .count - (i + 1)) s after line) _ _
+              ∙ then-same (itemsAt (to .count - (i + 1)) s after line) _ _
+              (λ ns end z. rw (le-leb 0 n (omega arith)) (go narrow (leb n 255) ns end)));
+        }
+      where
+        go : (a b : Bool) (ns : List ℕ) (end : ℕ)
+            → foundIf (cond (a && (b && allRanged 0 255 ns)) Passed (Refused (OutOfRange line))) (spread ns (slot + to .step) (to .step) (set l slot n)) end
+            ≡ foundIf (cond ((a && b) && allRanged 0 255 ns) Passed (Refused (OutOfRange line)))
+            (spread ns (slot + to .step) (to .step) (cond b (set l slot n) l)) end
+        go true true ns end = refl
+        go true false ns end = refl
+        go false true ns end = refl
+        go false false ns end = refl
 
-      pub storing-wide : 255 < n → Storing to s at line old true l after (i + 1)
-      unfolding spread allRanged
-      storing-wide b =
-          record {
-            within = omega arith;
-            rest = w .rest ∙ rw (next-item, e) (then-then (itemsAt (to .count - (i + 1)) s after line) _ _
-                ∙ then-same (itemsAt (to .count - (i + 1)) s after line) _ _ (λ ns end z. rw (le-leb 0 n (omega arith), lt-leb n 255 b, fails wide) refl));
-          }
-        where
-          fails : (b : Bool) → (not b && false) ≡ false
-          fails true = refl
-          fails false = refl
-
-  module _ (h : to .count ≤ i) where
-    pub storing-refused : wide ≡ true → refused (OutOfRange line) ≡ answer
-    unfolding itemsAt
-    storing-refused e =
-        let none : to .count - i ≡ 0 = omega arith in
-        sym (w .rest ∙ rw (none, e) refl)
-
-    pub storing-done : wide ≡ false → found l next ≡ answer
-    unfolding itemsAt allRanged spread
-    storing-done e =
-        let none : to .count - i ≡ 0 = omega arith in
-        sym (w .rest ∙ rw (none, e) refl)
+  -- all numbers are read
+  pub storing-end : to .count ≤ i → foundIf (cond narrow Passed (Refused (OutOfRange line))) l next ≡ answer
+  unfolding itemsAt allRanged spread
+  storing-end h =
+      let none : to .count - i ≡ 0 = omega arith in
+      sym (w .rest ∙ rw (none, and-true narrow) refl)

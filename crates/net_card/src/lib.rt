@@ -9,11 +9,12 @@ use reply::Refusal;
 use reply::Reply;
 use text::NumberRead;
 ghost use mathlib.Core.Path.{_≡_};
-ghost use mathlib.Core.Bool.{true};
+ghost use mathlib.Core.Bool.{true, cond};
 ghost use mathlib.Core.List.{_++_};
 ghost use Prim.Native.Nat.{_+_, _*_, _≤_, _<_, min};
 ghost use denote.Ref.{ptr};
-ghost use lib.ListN.{length, getD, drop, replicate};
+ghost use lib.ListN.{length, getD, set, drop, replicate};
+ghost use lib.Dec.{leb};
 ghost use Rattle.laws.specs.Arrays.{filled};
 ghost use Rattle.laws.specs.Writing.{Puts};
 ghost use Rattle.reply.specs.Respond.{Responded};
@@ -124,34 +125,48 @@ fn interval_lines(s: &[u8], at: usize, line: usize) -> IntervalRead
     }
 }
 
+// Stores a number in a slot of an array if it fits a byte, and says whether it does.
+fn store(table: &mut [u8; 512], slot: usize, value: u32) -> bool
+    requires { ⌜ slot < 512 ⌝ }
+    ensures { λ r. ⌜ (r ≡ leb value 255) × (now (table .exit) ≡ cond (leb value 255) (set (now (table .entry)) slot value) (now (table .entry))) ⌝ }
+{
+    if 255 < value {
+        return false;
+    }
+    table[slot] = value as u8;
+    true
+}
+
 // Reads numbers joined by commas and the line's end, and stores them; the form of the whole line comes before the ranges.
 fn store_items(s: &[u8], at: usize, line: usize, table: &mut [u8; 512], to: Slots) -> LineRead
-    requires { ⌜ (to .count ≤ 16) × (to .first + to .step * 15 < 512) ⌝ }
+    requires { ⌜ (1 ≤ to .count) × (to .count ≤ 16) × (to .first + to .step * 15 < 512) ⌝ }
     ensures { λ r. ⌜ foundIn r (now (table .exit)) ≡ storedIn to (now (table .entry)) (items (to .count) 16 0 255 .read (now (s .entry)) at line) ⌝ }
 {
     let count = to.count;
     let first = to.first;
     let step = to.step;
-    let mut wide = false;
+    let mut slot = first;
+    let mut narrow = true;
     let mut next = at;
     let mut i: usize = 0;
-    while i < count {
-        let n = text::item_at(s, next, i + 1 == count);
+    while i + 1 < count {
+        let n = text::item_at(s, next, false);
         let NumberRead::Value { value, next: after } = n else {
             return LineRead::Stopped(Refusal::Malformed(line));
         };
-        if value <= 255 {
-            table[first + step * i] = value as u8;
-        } else {
-            wide = true;
-        }
+        narrow = narrow & store(&mut *table, slot, value);
+        slot += step;
         next = after;
         i += 1;
     }
-    if wide {
-        return LineRead::Stopped(Refusal::OutOfRange(line));
+    let n = text::item_at(s, next, true);
+    let NumberRead::Value { value, next: after } = n else {
+        return LineRead::Stopped(Refusal::Malformed(line));
+    };
+    if narrow & store(table, slot, value) {
+        return LineRead::Next(after);
     }
-    LineRead::Next(next)
+    LineRead::Stopped(Refusal::OutOfRange(line))
 }
 
 // A line with a key and a list of weights, which are stored.
@@ -163,7 +178,7 @@ fn weights_line(
     table: &mut [u8; 512],
     to: Slots,
 ) -> LineRead
-    requires { ⌜ (to .count ≤ 16) × (to .first + to .step * 15 < 512) ⌝ }
+    requires { ⌜ (1 ≤ to .count) × (to .count ≤ 16) × (to .first + to .step * 15 < 512) ⌝ }
     ensures { λ r. ⌜ foundIn r (now (table .exit)) ≡
         storedIn to (now (table .entry)) (keyed (now (key .entry)) (items (to .count) 16 0 255) .read (now (s .entry)) at line) ⌝ }
 {
@@ -184,7 +199,7 @@ fn weight_lines(
     take: &mut [u8; 512],
     give: &mut [u8; 512],
 ) -> LineRead
-    requires { ⌜ (places ≤ 16) × (t < 32) × (line ≤ 1002) ⌝ }
+    requires { ⌜ (1 ≤ places) × (places ≤ 16) × (t < 32) × (line ≤ 1002) ⌝ }
     ensures { λ r. ⌜ foundIn r (now (take .exit), now (give .exit)) ≡
         storedAs places t (now (take .entry)) (now (give .entry)) (weights places .read (now (s .entry)) at line) ⌝ }
 {
@@ -247,7 +262,7 @@ fn refused_net(r: Refusal) -> NetRead
 
 // The lines of all transitions, behind the tokens of the start.
 fn table_lines(s: &[u8], at: usize, places: usize, transitions: usize, start: [u8; 16]) -> NetRead
-    requires { ⌜ (places ≤ 16) × (transitions ≤ 32) ⌝ }
+    requires { ⌜ (1 ≤ places) × (places ≤ 16) × (transitions ≤ 32) ⌝ }
     ensures { λ r. ⌜ r ≡ started places transitions start (rows places transitions .read (now (s .entry)) at (3 + places)) ⌝ }
 {
     let mut take = [0u8; 512];
@@ -288,7 +303,7 @@ fn table_lines(s: &[u8], at: usize, places: usize, transitions: usize, start: [u
 
 // The lines behind the two counts.
 fn net_lines(s: &[u8], at: usize, places: usize, transitions: usize) -> NetRead
-    requires { ⌜ (places ≤ 16) × (transitions ≤ 32) ⌝ }
+    requires { ⌜ (1 ≤ places) × (places ≤ 16) × (transitions ≤ 32) ⌝ }
     ensures { λ r. ⌜ r ≡ behindCounts places transitions (body places transitions .read (now (s .entry)) at 3) ⌝ }
 {
     let mut start = [0u8; 16];

@@ -14,8 +14,6 @@ use Rattle.run_card.specs.declared.MemoryLine.{MemoryLine}
 use Rattle.run_card.specs.declared.MemoryLine.the-variants as memory-line
 use Rattle.run_card.specs.declared.OneFiring.{OneFiring}
 use Rattle.run_card.specs.declared.OneFiring.the-variants as one-firing
-use Rattle.run_card.specs.declared.RunFirings.{RunFirings}
-use Rattle.run_card.specs.declared.OrderFires.{OrderFires}
 use Rattle.run_card.specs.declared.RunRead.{RunRead}
 use Rattle.run_card.specs.declared.OrderRead.{OrderRead}
 
@@ -28,14 +26,6 @@ memoryLine (refused r) = memory-line.Refused r
 abbrev pub oneFiring : Found Firing → OneFiring
 oneFiring (found f next) = one-firing.Value (f .wait) (f .fire) next
 oneFiring (refused r) = one-firing.Refused r
-
--- the firings of a run
-abbrev pub runFirings : Found (List Firing) → RunFirings
-runFirings f = record { read = lineRead f; firings = valueOr (replicate 64 noFiring) f }
-
--- the fired transitions of an order
-abbrev pub orderFires : Found (List ℕ) → OrderFires
-orderFires f = record { read = lineRead f; fires = valueOr (replicate 64 0) f }
 
 -- the run of a refused card
 abbrev pub noRun : Run

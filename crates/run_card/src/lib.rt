@@ -15,10 +15,10 @@ ghost use Prim.Native.Nat.{_≤_, min};
 ghost use Rattle.laws.specs.Writing.{Puts};
 ghost use Rattle.reply.specs.Respond.{Responded};
 ghost use Rattle.text.specs.Key.{bytes};
-ghost use Rattle.form.specs.Form.{keyed, exactly, times, alone, refused};
+ghost use Rattle.form.specs.Form.{keyed, exactly, times, ended, alone, refused};
 ghost use Rattle.run.specs.Run.{memory, memoryText, fire, firing, noFiring, steps, runCard, orderCard};
 ghost use Rattle.cards.specs.Cards.{cardBehind, readRun, readOrder, runChecked, orderChecked, runText, orderText};
-ghost use Rattle.run_card.specs.Code.{memoryLine, oneFiring, runFirings, orderFires, runRead, orderRead, runFrom, orderFrom};
+ghost use Rattle.run_card.specs.Code.{memoryLine, oneFiring, runRead, orderRead, runFrom, orderFrom};
 
 // The memory rule of a line and the position behind the line, or why there is none.
 enum MemoryLine {
@@ -30,18 +30,6 @@ enum MemoryLine {
 enum OneFiring {
     Value { wait: u32, fire: u32, next: usize },
     Refused(Refusal),
-}
-
-// The firings of a run and where reading goes on, or why they are refused.
-struct RunFirings {
-    read: LineRead,
-    firings: [Firing; 64],
-}
-
-// The fired transitions of an order and where reading goes on, or why they are refused.
-struct OrderFires {
-    read: LineRead,
-    fires: [u32; 64],
 }
 
 // A run that was read, or why its card is refused.
@@ -107,45 +95,6 @@ fn one_firing(s: &[u8], at: usize, transitions: usize, line: usize) -> OneFiring
     }
 }
 
-// What stands for firings that are refused.
-fn refused_firings(r: Refusal) -> RunFirings
-    ensures { λ f. ⌜ f ≡ runFirings (refused r) ⌝ }
-{
-    let none = Firing { wait: 0, fire: 0 };
-    RunFirings {
-        read: LineRead::Stopped(r),
-        firings: [none; 64],
-    }
-}
-
-// The lines of all firings of a run card: from line 4 on, two for each.
-fn all_firings(s: &[u8], at: usize, transitions: usize, count: usize) -> RunFirings
-    requires { ⌜ count ≤ 64 ⌝ }
-    ensures { λ r. ⌜ r ≡ runFirings (exactly count 64 noFiring (firing transitions) .read (now (s .entry)) at 4) ⌝ }
-{
-    let none = Firing { wait: 0, fire: 0 };
-    let mut firings = [none; 64];
-    let mut to = at;
-    let mut i: usize = 0;
-    while i < count {
-        let f = one_firing(s, to, transitions, 4 + 2 * i);
-        match f {
-            OneFiring::Refused(r) => {
-                return refused_firings(r);
-            }
-            OneFiring::Value { wait, fire, next } => {
-                firings[i] = Firing { wait, fire };
-                to = next;
-                i += 1;
-            }
-        }
-    }
-    RunFirings {
-        read: LineRead::Next(to),
-        firings,
-    }
-}
-
 // What stands for a run whose card is refused.
 fn refused_run(r: Refusal) -> RunRead
     ensures { λ n. ⌜ n ≡ runRead (refused r) ⌝ }
@@ -163,7 +112,7 @@ fn refused_run(r: Refusal) -> RunRead
     }
 }
 
-// A run from the values of its first three lines and the lines behind them.
+// A run from the values of its first three lines and the lines behind them, behind which nothing may follow.
 fn run_from(
     s: &[u8],
     at: usize,
@@ -173,37 +122,49 @@ fn run_from(
     count: usize,
 ) -> RunRead
     requires { ⌜ count ≤ 64 ⌝ }
-    ensures { λ r. ⌜ r ≡ runRead (runFrom memory denominator count (steps transitions count .read (now (s .entry)) at 4)) ⌝ }
+    ensures { λ r. ⌜ r ≡
+        runRead (ended (runCard transitions) (now (s .entry)) (runFrom memory denominator count (steps transitions count .read (now (s .entry)) at 4))) ⌝ }
 {
-    let f = all_firings(s, at, transitions, count);
-    let read = f.read;
-    match read {
-        LineRead::Stopped(r) => refused_run(r),
-        LineRead::Next(at_rest) => {
-            let r = form::number_line(s, at_rest, b"rest=", 0, 10000000, 4 + 2 * count);
-            match r {
-                NumberLine::Refused(e) => refused_run(e),
-                NumberLine::Value { value: rest, next } => {
-                    let firings = f.firings;
-                    RunRead {
-                        read: LineRead::Next(next),
-                        run: Run {
-                            memory,
-                            denominator,
-                            count,
-                            firings,
-                            rest,
-                        },
-                    }
-                }
+    let none = Firing { wait: 0, fire: 0 };
+    let mut run = Run {
+        memory,
+        denominator,
+        count,
+        firings: [none; 64],
+        rest: 0,
+    };
+    let mut to = at;
+    let mut i: usize = 0;
+    while i < count {
+        let f = one_firing(s, to, transitions, 4 + 2 * i);
+        match f {
+            OneFiring::Refused(r) => return refused_run(r),
+            OneFiring::Value { wait, fire, next } => {
+                run.firings[i] = Firing { wait, fire };
+                to = next;
+                i += 1;
+            }
+        }
+    }
+    let n = form::number_line(s, to, b"rest=", 0, 10000000, 4 + 2 * count);
+    match n {
+        NumberLine::Refused(r) => refused_run(r),
+        NumberLine::Value { value, next } => {
+            if next < s.len() {
+                return refused_run(Refusal::Malformed(5 + 2 * count));
+            }
+            run.rest = value;
+            RunRead {
+                read: LineRead::Next(next),
+                run,
             }
         }
     }
 }
 
-// The lines of a run card at the front of an input.
-fn run_lines(s: &[u8], transitions: usize) -> RunRead
-    ensures { λ r. ⌜ r ≡ runRead (runCard transitions .read (now (s .entry)) 0 1) ⌝ }
+// Reads a run card of a net with so many transitions, behind which nothing may follow.
+pub fn run_card(s: &[u8], transitions: usize) -> RunRead
+    ensures { λ r. ⌜ r ≡ runRead (alone (runCard transitions) (now (s .entry))) ⌝ }
 {
     let m = memory_line(s, 0, 1);
     match m {
@@ -232,61 +193,6 @@ fn run_lines(s: &[u8], transitions: usize) -> RunRead
     }
 }
 
-// Reads a run card of a net with so many transitions, behind which nothing may follow.
-pub fn run_card(s: &[u8], transitions: usize) -> RunRead
-    ensures { λ r. ⌜ r ≡ runRead (alone (runCard transitions) (now (s .entry))) ⌝ }
-{
-    let r = run_lines(s, transitions);
-    let read = r.read;
-    match read {
-        LineRead::Stopped(_) => r,
-        LineRead::Next(next) => {
-            if s.len() <= next {
-                return r;
-            }
-            let n = r.run.count;
-            refused_run(Refusal::Malformed(5 + 2 * n))
-        }
-    }
-}
-
-// What stands for fired transitions that are refused.
-fn refused_fires(r: Refusal) -> OrderFires
-    ensures { λ f. ⌜ f ≡ orderFires (refused r) ⌝ }
-{
-    OrderFires {
-        read: LineRead::Stopped(r),
-        fires: [0u32; 64],
-    }
-}
-
-// The lines `fire` of an order card: from line 3 on.
-fn all_fires(s: &[u8], at: usize, transitions: usize, count: usize) -> OrderFires
-    requires { ⌜ count ≤ 64 ⌝ }
-    ensures { λ r. ⌜ r ≡ orderFires (exactly count 64 0 (fire transitions) .read (now (s .entry)) at 3) ⌝ }
-{
-    let mut fires = [0u32; 64];
-    let mut to = at;
-    let mut i: usize = 0;
-    while i < count {
-        let f = form::listed_line(s, to, b"fire=", transitions as u64, 3 + i);
-        match f {
-            NumberLine::Refused(r) => {
-                return refused_fires(r);
-            }
-            NumberLine::Value { value, next } => {
-                fires[i] = value;
-                to = next;
-                i += 1;
-            }
-        }
-    }
-    OrderFires {
-        read: LineRead::Next(to),
-        fires,
-    }
-}
-
 // What stands for an order whose card is refused.
 fn refused_order(r: Refusal) -> OrderRead
     ensures { λ n. ⌜ n ≡ orderRead (refused r) ⌝ }
@@ -301,32 +207,43 @@ fn refused_order(r: Refusal) -> OrderRead
     }
 }
 
-// An order from the values of its first two lines and the lines behind them.
+// An order from the values of its first two lines and the lines behind them, behind which nothing may follow.
 fn order_from(s: &[u8], at: usize, transitions: usize, memory: Memory, count: usize) -> OrderRead
     requires { ⌜ count ≤ 64 ⌝ }
-    ensures { λ r. ⌜ r ≡ orderRead (orderFrom memory count (times count 64 0 (fire transitions) .read (now (s .entry)) at 3)) ⌝ }
+    ensures { λ r. ⌜ r ≡
+        orderRead (ended (orderCard transitions) (now (s .entry))
+        (orderFrom memory count (times count 64 0 (fire transitions) .read (now (s .entry)) at 3))) ⌝ }
 {
-    let f = all_fires(s, at, transitions, count);
-    let read = f.read;
-    match read {
-        LineRead::Stopped(e) => refused_order(e),
-        LineRead::Next(next) => {
-            let fires = f.fires;
-            OrderRead {
-                read: LineRead::Next(next),
-                order: Order {
-                    memory,
-                    count,
-                    fires,
-                },
+    let mut order = Order {
+        memory,
+        count,
+        fires: [0u32; 64],
+    };
+    let mut to = at;
+    let mut i: usize = 0;
+    while i < count {
+        let f = form::listed_line(s, to, b"fire=", transitions as u64, 3 + i);
+        match f {
+            NumberLine::Refused(r) => return refused_order(r),
+            NumberLine::Value { value, next } => {
+                order.fires[i] = value;
+                to = next;
+                i += 1;
             }
         }
     }
+    if to < s.len() {
+        return refused_order(Refusal::Malformed(3 + count));
+    }
+    OrderRead {
+        read: LineRead::Next(to),
+        order,
+    }
 }
 
-// The lines of an order card at the front of an input.
-fn order_lines(s: &[u8], transitions: usize) -> OrderRead
-    ensures { λ r. ⌜ r ≡ orderRead (orderCard transitions .read (now (s .entry)) 0 1) ⌝ }
+// Reads an order card of a net with so many transitions, behind which nothing may follow.
+pub fn order_card(s: &[u8], transitions: usize) -> OrderRead
+    ensures { λ r. ⌜ r ≡ orderRead (alone (orderCard transitions) (now (s .entry))) ⌝ }
 {
     let m = memory_line(s, 0, 1);
     match m {
@@ -342,24 +259,6 @@ fn order_lines(s: &[u8], transitions: usize) -> OrderRead
                     order_from(s, next, transitions, memory, count as usize)
                 }
             }
-        }
-    }
-}
-
-// Reads an order card of a net with so many transitions, behind which nothing may follow.
-pub fn order_card(s: &[u8], transitions: usize) -> OrderRead
-    ensures { λ r. ⌜ r ≡ orderRead (alone (orderCard transitions) (now (s .entry))) ⌝ }
-{
-    let r = order_lines(s, transitions);
-    let read = r.read;
-    match read {
-        LineRead::Stopped(_) => r,
-        LineRead::Next(next) => {
-            if s.len() <= next {
-                return r;
-            }
-            let n = r.order.count;
-            refused_order(Refusal::Malformed(3 + n))
         }
     }
 }

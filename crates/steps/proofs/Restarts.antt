@@ -39,14 +39,14 @@ module _ (a : Arcs) (few : a .transitions ≤ 32) (looked : List ℕ) (t : ℕ) 
     joins u = getD new u false || ltb (getD looked p 0) (takes a u p)
 
     -- a place that is given to
-    pub marked-given : {next : List Bool} → (gives a t p ≡ 0 → ⊥) → next ≡ filled joins (a .transitions) new → Marked a looked t (p + 1) next
+    pub marked-given : {next : List Bool} → (gives a t p ≡ 0 → ⊥) → next ≡ filled joins 32 new → Marked a looked t (p + 1) next
     marked-given {next} n e =
         record {
           within = omega arith;
-          long = ap length e ∙ length-filled joins new (a .transitions) ∙ s .long;
+          long = ap length e ∙ length-filled joins new 32 ∙ s .long;
           marks = λ u b.
               ap (λ (x : List Bool). getD x u false) e
-              ∙ filled-at joins new false (a .transitions) u b (omega (arith, s .long))
+              ∙ filled-at joins new false 32 u (omega arith) (omega (arith, s .long))
               ∙ rw (s .marks u b, any-more (shortAt a looked t u) p, ne-eqb (gives a t p) 0 n) refl;
         }
 
@@ -69,11 +69,12 @@ module _ (a : Arcs) (few : a .transitions ≤ 32) (looked : List ℕ) (t : ℕ) 
 -- ---- the marked and t
 module _ (a : Arcs) (later : List ℕ) (instant : ℕ) (since : List ℕ) where
   -- where none is marked, none restarts
-  pub restarted-none : (marks : List Bool) → anyBelow (λ u. getD marks u false) (a .transitions) ≡ false → since ≡ restarted a later marks instant since
+  pub restarted-none : a .transitions ≤ 32 → (marks : List Bool) → anyBelow (λ u. getD marks u false) 32 ≡ false
+      → since ≡ restarted a later marks instant since
   unfolding restarted
-  restarted-none marks e =
+  restarted-none few marks e =
       sym (filled-idle (λ u. cond (getD marks u false && enough (a .take) (a .places) later u) instant (getD since u 0)) since 0 (a .transitions)
-      (λ k b. rw (any-none (λ u. getD marks u false) (a .transitions) e k b) refl))
+      (λ k b. rw (any-none (λ u. getD marks u false) 32 e k (omega arith)) refl))
 
   module _ (looked : List ℕ) (t : ℕ) (inside : t < a .transitions) (marks : List Bool)
       (told : (u : ℕ) → u < a .transitions → getD marks u false ≡ short a looked t u) {next : List ℕ} (e : next ≡ restarted a later marks instant since) where

@@ -53,7 +53,8 @@ const NO_TRANSITION: Transition = Transition {
     latest: Latest::Unbounded,
 };
 
-fn least(a: usize, b: usize) -> usize
+// The lower of two counts.
+pub fn least(a: usize, b: usize) -> usize
     ensures { λ r. ⌜ r ≡ min a b ⌝ }
 {
     if a < b { a } else { b }
@@ -135,7 +136,7 @@ fn on_time(t: Transition, denominator: u32, clock: u64) -> bool
 }
 
 // What a clock shows at an instant.
-fn elapsed(instant: u64, since: u64) -> u64
+pub fn elapsed(instant: u64, since: u64) -> u64
     ensures { λ r. ⌜ r ≡ instant - since ⌝ }
 {
     if instant < since { 0 } else { instant - since }
@@ -187,14 +188,14 @@ fn looked_at(memory: Memory, before: [u8; 16], middle: [u8; 16]) -> [u8; 16]
     }
 }
 
-// Marks the transitions that take more from place p than it has.
-fn mark(take: &[u8; 512], p: usize, tokens: u8, transitions: usize, marks: &mut [bool; 32])
-    requires { ⌜ (p < 16) × (transitions ≤ 32) ⌝ }
+// Marks the transitions that take more from place p than it has. All 32 slots are compared, whatever the count.
+fn mark(take: &[u8; 512], p: usize, tokens: u8, marks: &mut [bool; 32])
+    requires { ⌜ p < 16 ⌝ }
     ensures { λ r. ⌜ now (marks .exit)
-        ≡ filled (λ u. getD (now (marks .entry)) u false || ltb tokens (takesIn (now (take .entry)) u p)) transitions (now (marks .entry)) ⌝ }
+        ≡ filled (λ u. getD (now (marks .entry)) u false || ltb tokens (takesIn (now (take .entry)) u p)) 32 (now (marks .entry)) ⌝ }
 {
     let mut u: usize = 0;
-    while u < transitions {
+    while u < 32 {
         marks[u] = marks[u] | (tokens < take[32 * p + u]);
         u += 1;
     }
@@ -215,21 +216,20 @@ fn short_marks<'a>(
     let mut p: usize = 0;
     while p < fire.places {
         if give[16 * fire.t + p] != 0 {
-            mark(take, p, looked[p], fire.transitions, &mut marks);
+            mark(take, p, looked[p], &mut marks);
         }
         p += 1;
     }
     marks
 }
 
-// Whether any transition is marked.
-fn any_marked(marks: &[bool; 32], transitions: usize) -> bool
-    requires { ⌜ transitions ≤ 32 ⌝ }
-    ensures { λ r. ⌜ r ≡ anyBelow (λ u. getD (now (marks .entry)) u false) transitions ⌝ }
+// Whether any slot is marked.
+fn any_marked(marks: &[bool; 32]) -> bool
+    ensures { λ r. ⌜ r ≡ anyBelow (λ u. getD (now (marks .entry)) u false) 32 ⌝ }
 {
     let mut any = false;
     let mut u: usize = 0;
-    while u < transitions {
+    while u < 32 {
         any = any | marks[u];
         u += 1;
     }
@@ -275,7 +275,7 @@ fn renew<'a>(
 {
     let t = fire.t;
     let marks = short_marks(take, give, looked, fire);
-    if any_marked(&marks, fire.transitions) {
+    if any_marked(&marks) {
         restart_marked(take, later, &marks, fire, &mut *since);
     }
     if has_enough(take, later, fire.places, t) {

@@ -25,15 +25,9 @@ use Rattle.text.proofs.KeyLaws.{begins-split}
 use Rattle.text.proofs.NumberLaws.{digit-range, digit-test, separator-stops, long-form, zero-form, numberOf-right, numberOf-wrong}
 
 -- ---- what a class says of the byte
--- the byte b is that of the digit d
-pub record Shows (b d : ℕ) : Type 0 where
-  pub byte : b ≡ 48 + d
-  pub small : d ≤ 9
-
--- what each class says
 abbrev Says : ByteClass → ℕ → Type 0
-Says Zero b = Shows b 0
-Says (Digit d) b = Shows b d × (0 < d)
+Says Zero b = b ≡ 48
+Says (Digit d) b = (b ≡ 48 + d) × (0 < d) × (d ≤ 9)
 Says Comma b = b ≡ 44
 Says LineEnd b = b ≡ 10
 Says Other b = (isDigit b ≡ false) × (b ≢ 44) × (b ≢ 10)
@@ -43,45 +37,52 @@ class-says b k e = rw e at (go (isDigit b) (eqb b 48) (eqb b 44) (eqb b 10) refl
   where
     go : (t z u w : Bool) → isDigit b ≡ t → eqb b 48 ≡ z → eqb b 44 ≡ u → eqb b 10 ≡ w →
         Says (cond t (cond z Zero (Digit (b - 48))) (cond u Comma (cond w LineEnd Other))) b
-    go true true u w p o q r = record { byte = eqb-true b 48 o; small = omega arith }
+    go true true u w p o q r = eqb-true b 48 o
     go true false u w p o q r =
         let h = digit-range b p in
         let n = eqb-false b 48 o in
-        (record { byte = omega arith; small = omega arith }, omega arith)
+        (omega arith, omega arith, omega arith)
     go false z true w p o q r = eqb-true b 44 q
     go false z false true p o q r = eqb-true b 10 r
     go false z false false p o q r = (p, eqb-false b 44 q, eqb-false b 10 r)
 
--- the value of a digit, by its class
-pub shows-zero : (b d : ℕ) → classOf b ≡ Zero → d ≡ 0 → Shows b d
-shows-zero b d e z = rw z (class-says b Zero e)
+-- whether a byte of a class is a digit
+abbrev pub digitBy : ByteClass → Bool
+digitBy Zero = true
+digitBy (Digit d) = true
+digitBy Comma = false
+digitBy LineEnd = false
+digitBy Other = false
 
-pub shows-digit : (b d m : ℕ) → classOf b ≡ Digit m → d ≡ m → Shows b d
-shows-digit b d m e z = rw z (class-says b (Digit m) e .0)
-
--- any class but those of digits
-class-none : (b : ℕ) (k : ByteClass) → classOf b ≡ k → OneOf (2 ∷ 3 ∷ 4 ∷ []) (tagOf the-type k) → isDigit b ≡ false
-class-none b k e o = go k (class-says b k e) o
+pub digit-class : (b : ℕ) (k : ByteClass) → classOf b ≡ k → digitBy k ≡ isDigit b
+digit-class b k e = go k (class-says b k e)
   where
-    go : (k : ByteClass) → Says k b → OneOf (2 ∷ 3 ∷ 4 ∷ []) (tagOf the-type k) → isDigit b ≡ false
-    go Zero h o = absurd (miss (2 ∷ 3 ∷ 4 ∷ []) 0 tt o)
-    go (Digit d) h o = absurd (miss (2 ∷ 3 ∷ 4 ∷ []) 1 tt o)
-    go Comma h o = rw h refl
-    go LineEnd h o = rw h refl
-    go Other h o = h .0
+    go : (k : ByteClass) → Says k b → digitBy k ≡ isDigit b
+    go Zero h = rw h refl
+    go (Digit d) h = sym (digit-test b (omega arith) (omega arith))
+    go Comma h = rw h refl
+    go LineEnd h = rw h refl
+    go Other h = sym (h .0)
+
+pub no-digit : (b : ℕ) (k : ByteClass) → classOf b ≡ k → OneOf (2 ∷ 3 ∷ 4 ∷ []) (tagOf the-type k) → false ≡ isDigit b
+no-digit b k e o = go k o ∙ digit-class b k e
+  where
+    go : (k : ByteClass) → OneOf (2 ∷ 3 ∷ 4 ∷ []) (tagOf the-type k) → false ≡ digitBy k
+    go Zero o = absurd (miss (2 ∷ 3 ∷ 4 ∷ []) 0 tt o)
+    go (Digit d) o = absurd (miss (2 ∷ 3 ∷ 4 ∷ []) 1 tt o)
+    go Comma o = refl
+    go LineEnd o = refl
+    go Other o = refl
 
 -- ---- the digits that a list begins with, one step at a time
-digits-more : (s : List ℕ) (i d : ℕ) → i < length s → Shows (getD s i 0) d → digitsOf (drop i s) ≡ d ∷ digitsOf (drop (i + 1) s)
+digits-more : (s : List ℕ) (i : ℕ) → i < length s → isDigit (getD s i 0) ≡ true
+    → digitsOf (drop i s) ≡ (getD s i 0 - 48) ∷ digitsOf (drop (i + 1) s)
 unfolding digitsOf
-digits-more s i d l h =
-    let test = digit-test (getD s i 0) (omega arith) (omega arith) in
-    let value : getD s i 0 - 48 ≡ d = omega arith in
-    rw (add-one, drop-cons s i 0, test, value) refl
+digits-more s i l t = rw (add-one, drop-cons s i 0, t) refl
 
-pub digits-stop : (s : List ℕ) (i : ℕ) (k : ByteClass) → i < length s → classOf (getD s i 0) ≡ k
-    → OneOf (2 ∷ 3 ∷ 4 ∷ []) (tagOf the-type k) → digitsOf (drop i s) ≡ []
+pub digits-stop : (s : List ℕ) (i : ℕ) → i < length s → isDigit (getD s i 0) ≡ false → digitsOf (drop i s) ≡ []
 unfolding digitsOf
-digits-stop s i k l e o = rw (drop-cons s i 0, class-none (getD s i 0) k e o) refl
+digits-stop s i l t = rw (drop-cons s i 0, t) refl
 
 pub digits-end : (s : List ℕ) (i : ℕ) → length s ≤ i → digitsOf (drop i s) ≡ []
 unfolding digitsOf
@@ -179,7 +180,7 @@ module _ (s : List ℕ) (at : ℕ) (last : Bool) where
     field-zero e = go (digitsOf (drop (at + 1) s)) refl
       where
         first : digitsOf (drop at s) ≡ 0 ∷ digitsOf (drop (at + 1) s)
-        first = digits-more s at 0 l (class-says (getD s at 0) Zero e)
+        first = digits-more s at l (sym (digit-class (getD s at 0) Zero e)) ∙ rw (class-says (getD s at 0) Zero e) refl
 
         go : (ds : List ℕ) → digitsOf (drop (at + 1) s) ≡ ds → closed s last (Value 0 (at + 1)) ≡ fieldAt s at last
         go [] q = field-digit 0 (first ∙ rw q refl)
@@ -188,13 +189,11 @@ module _ (s : List ℕ) (at : ℕ) (last : Bool) where
             rw (separator-none s (at + 1) last q) (field-none (zero-form (digitsOf (drop at s)) more (ap (λ (l : List ℕ). getD l 0 0) first)))
 
     -- a digit with its separator
-    pub field-one : 48 ≤ getD s at 0 → getD s at 0 ≤ 57 → beginsWith (separator last ∷ []) (drop (at + 1) s) ≡ true
+    pub field-one : isDigit (getD s at 0) ≡ true → beginsWith (separator last ∷ []) (drop (at + 1) s) ≡ true
         → Value (getD s at 0 - 48) (at + 2) ≡ fieldAt s at last
-    field-one low high t =
-        let d = getD s at 0 - 48 in
+    field-one d t =
         let two : at + 1 + 1 ≡ at + 2 = omega arith in
-        let one : Shows (getD s at 0) d = record { byte = omega arith; small = omega arith } in
-        rw (t, two) at (field-digit d (digits-more s at d l one ∙ rw (separator-ends s (at + 1) last t) refl))
+        rw (t, two) at (field-digit (getD s at 0 - 48) (digits-more s at l d ∙ rw (separator-ends s (at + 1) last t) refl))
 
 -- ---- the state of a reader that began at `at` with a digit from 1 on, and that stands behind the digits up to i, whose value is v
 pub record Run (s : List ℕ) (at v i : ℕ) : Type 0 where
@@ -208,12 +207,13 @@ pub record Run (s : List ℕ) (at v i : ℕ) : Type 0 where
 pub run-start : (s : List ℕ) (at d : ℕ) → at < length s → classOf (getD s at 0) ≡ Digit d → Run s at d (at + 1)
 run-start s at d l e =
     let h = class-says (getD s at 0) (Digit d) e in
-    let m = digits-more s at d l (h .0) in
+    let value : getD s at 0 - 48 ≡ d = omega arith in
+    let m = rw value at (digits-more s at l (sym (digit-class (getD s at 0) (Digit d) e))) in
     let one : at + 1 - at ≡ 1 = omega arith in
     record {
       from = omega arith;
       few = omega arith;
-      small = rw one (omega (arith, h .0 .small));
+      small = rw one (omega arith);
       count = omega (arith, ap length m);
       value = rw m (value-more 0 d (digitsOf (drop (at + 1) s)) ∙ rw zero-add refl);
       lead = rw m (h .1);
@@ -221,15 +221,17 @@ run-start s at d l e =
 
 module _ (s : List ℕ) (at v i : ℕ) (r : Run s at v i) where
   -- one more digit
-  module _ (d : ℕ) (l : i < length s) (e : Shows (getD s i 0) d) where
-    pub run-more : (i - at ≡ 9 → ⊥) → Run s at (v * 10 + d) (i + 1)
+  module _ (l : i < length s) (t : isDigit (getD s i 0) ≡ true) where
+    pub run-more : (i - at ≡ 9 → ⊥) → Run s at (v * 10 + (getD s i 0 - 48)) (i + 1)
     run-more n =
-        let m = digits-more s i d l e in
+        let d = getD s i 0 - 48 in
+        let h = digit-range (getD s i 0) t in
+        let m = digits-more s i l t in
         let k : (i - at) + 1 ≡ (i + 1) - at = omega arith in
         record {
           from = omega arith;
           few = omega arith;
-          small = rw k at (room v (i - at) d (r .small) (e .small));
+          small = rw k at (room v (i - at) d (r .small) (omega arith));
           count = omega (arith, ap length m);
           value = r .value ∙ rw m (value-more v d (digitsOf (drop (i + 1) s)));
           lead = r .lead;
@@ -237,7 +239,7 @@ module _ (s : List ℕ) (at v i : ℕ) (r : Run s at v i) where
 
     -- a tenth digit
     pub run-long : (last : Bool) → i - at ≡ 9 → NoNumber ≡ fieldAt s at last
-    run-long last n = field-none s at last (long-form (digitsOf (drop at s)) (omega (arith, ap length (digits-more s i d l e))))
+    run-long last n = field-none s at last (long-form (digitsOf (drop at s)) (omega (arith, ap length (digits-more s i l t))))
 
   -- where the digits end, they make a number
   run-number : digitsOf (drop i s) ≡ [] → numberAt s at ≡ Value v i

@@ -7,7 +7,7 @@ ghost use Rattle.laws.specs.Writing.{Puts};
 ghost use Rattle.text.specs.declared.ByteClass.the-variants.{Digit};
 ghost use Rattle.text.specs.declared.NumberRead.the-variants.{Value};
 ghost use Rattle.text.specs.Key.{beginsWith};
-ghost use Rattle.text.specs.Number.{classOf, separator, closed, fieldAt};
+ghost use Rattle.text.specs.Number.{isDigit, classOf, separator, closed, fieldAt};
 ghost use Rattle.text.specs.Decimal.{decimal, field};
 
 // What a byte is to a reader of cards; the digits from 1 on with their value.
@@ -31,9 +31,23 @@ fn class_of(b: u8) -> ByteClass
                 ByteClass::Digit(b - 48)
             }
         }
-        44 => ByteClass::Comma,
-        10 => ByteClass::LineEnd,
-        _ => ByteClass::Other,
+        _ => match b {
+            44 => ByteClass::Comma,
+            10 => ByteClass::LineEnd,
+            _ => ByteClass::Other,
+        },
+    }
+}
+
+// Whether a byte is a digit, by its class.
+fn is_digit(b: u8) -> bool
+    ensures { λ r. ⌜ r ≡ isDigit b ⌝ }
+{
+    let c = class_of(b);
+    match c {
+        ByteClass::Zero => true,
+        ByteClass::Digit(_) => true,
+        _ => false,
     }
 }
 
@@ -65,17 +79,12 @@ pub fn item_at(s: &[u8], at: usize, last: bool) -> NumberRead
     if s.len() <= at {
         return NumberRead::NoNumber;
     }
-    let c = class_of(s[at]);
-    let d = match c {
-        ByteClass::Zero => 0,
-        ByteClass::Digit(first) => first,
-        _ => {
-            return NumberRead::NoNumber;
-        }
-    };
+    if !is_digit(s[at]) {
+        return NumberRead::NoNumber;
+    }
     if separated(s, at + 1, last) {
         return NumberRead::Value {
-            value: d as u32,
+            value: (s[at] - 48) as u32,
             next: at + 2,
         };
     }
@@ -90,18 +99,13 @@ fn number_from(s: &[u8], at: usize, first: u8, last: bool) -> NumberRead
     let mut v = first as u32;
     let mut i: usize = at + 1;
     while i < s.len() {
-        let c = class_of(s[i]);
-        let d = match c {
-            ByteClass::Zero => 0,
-            ByteClass::Digit(more) => more,
-            _ => {
-                return closed(s, i, v, last);
-            }
-        };
+        if !is_digit(s[i]) {
+            return closed(s, i, v, last);
+        }
         if i - at == 9 {
             return NumberRead::NoNumber;
         }
-        v = v * 10 + d as u32;
+        v = v * 10 + (s[i] - 48) as u32;
         i += 1;
     }
     NumberRead::NoNumber

@@ -10,16 +10,16 @@ use Rattle.engine.proofs.process_cards.Tie as tie
 process-checked-requires : tie.Need-process-checked-requires
 process-checked-requires c κs =
     let t = c .before in
-    let b = t .before .before .before in
-    let n = b .before .before in
+    let b = t .before .before in
+    let n = b .before in
     let a = n .before .before .before .args in
     let f = run-input-found (a .input .now) (n .read-net .ensures) (b .run-behind .ensures) (t .enum-told .given .1) in
     run-cards-passed (a .input .now) (f .1)
 
 returns : tie.Need-returns
 returns c =
-    let b = c .before .before .before .before in
-    let n = b .before .before in
+    let b = c .before .before .before in
+    let n = b .before in
     let a = n .before .before .before .args in
     cards-refused (λ v. processOf (v .0) (v .1)) (a .out .now)
     (run-input-stopped (a .input .now) (n .read-net .ensures) (b .run-behind .ensures) (c .before .read .given .1))
@@ -28,8 +28,8 @@ returns-2 : tie.Need-returns-2
 returns-2 c =
     let f = c .before .before in
     let t = f .before .before in
-    let b = t .before .before .before in
-    let n = b .before .before in
+    let b = t .before .before in
+    let n = b .before in
     let a = n .before .before .before .args in
     let g = run-input-found (a .input .now) (n .read-net .ensures) (b .run-behind .ensures) (t .enum-told .given .1) in
     cards-found (λ v. processOf (v .0) (v .1)) (g .1) (f .process-checked .ensures)

@@ -6,7 +6,7 @@ use Rattle.engine.proofs.timetable_checked.Tie as tie
 
 respond-run-requires : tie.Need-respond-run-requires
 respond-run-requires c κs =
-    let t = c .before .before in
+    let t = c .before in
     let k = t .before .before in
     let s = k .before .before in
     timetable-fits (s .args .net) (s .args .order) (s .pre) (k .timetable .ensures) (t .enum-told .given .1)
@@ -20,7 +20,7 @@ returns c =
 returns-2 : tie.Need-returns-2
 returns-2 c =
     let f = c .before .before in
-    let t = f .before .before .before in
+    let t = f .before .before in
     let k = t .before .before in
     let s = k .before .before in
     timetable-answered (s .args .net) (s .args .order) (s .pre) (k .timetable .ensures) (t .enum-told .given .1) (f .respond-run .ensures)

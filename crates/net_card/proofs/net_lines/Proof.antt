@@ -21,7 +21,7 @@ returns-2 c =
     let b = n .before .before .before in
     c .table-lines .ensures
     ∙ starts-found (b .args .places) (b .args .transitions) (b .args .s .now) (b .args .at) (n .start-lines .result) (n .start-lines .last .1 .1 .1 .0)
-    (n .start-lines .ensures) (b .pre .0) (e .read2 .given .1)
+    (n .start-lines .ensures) (b .pre .1) (e .read2 .given .1)
 
 pub net-lines-spec : {M : Type 1} → statement M
 net-lines-spec =

@@ -13,7 +13,7 @@ abbrev μ-loop : tie.MeasureT-loop
 μ-loop s at places transitions start take₀ give₀ table₀ to₀ t₀ take give table to t = transitions - t
 
 loop-holds : tie.Need-loop-holds Inv-loop μ-loop
-loop-holds c = let s = c .before in rows-start (s .args .places) (s .args .transitions) (s .args .s .now) (s .args .at) (s .pre .1)
+loop-holds c = let s = c .before in rows-start (s .args .places) (s .args .transitions) (s .args .s .now) (s .args .at) (s .pre .2)
 
 returns : tie.Need-returns Inv-loop μ-loop
 returns c =
@@ -45,7 +45,7 @@ loop-again c =
     let l = n .before in
     let b = l .before .before .before in
     rows-more (b .args .places) (b .args .start) (l .before .loop .inv) (l .loop-test .taken) (sym (n .interval-lines .ensures) ∙ e .i2 .given .1)
-    (k .weight-lines .result) (k .weight-lines .last .1 .1 .1 .1 .1 .0) (k .weight-lines .last .1 .1 .1 .1 .1 .1 .0) (k .weight-lines .ensures) (b .pre .0)
+    (k .weight-lines .result) (k .weight-lines .last .1 .1 .1 .1 .1 .0) (k .weight-lines .last .1 .1 .1 .1 .1 .1 .0) (k .weight-lines .ensures) (b .pre .1)
     (w .w2 .given .1)
 
 returns-3 : tie.Need-returns-3 Inv-loop μ-loop

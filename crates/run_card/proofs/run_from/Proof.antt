@@ -1,42 +1,76 @@
--- The firings are read first and the rest behind them, and each way out is one case of that.
-use mathlib.Core.Path.{sym, _∙_}
+-- The loop keeps the state of the reader (`Reading`) and the values of the first lines; a refused line refuses all, and bytes behind the last line do too.
+use Prim.Native.Nat.{_+_, _*_, _-_}
+use mathlib.Core.Path.{_≡_, refl, sym, _∙_}
 use borrow.Author.Needs.{needs}
-use Rattle.run_card.proofs.Read.{firings-stopped, rest-stopped, steps-read}
+use Rattle.form.proofs.Loops.{Reading, reading-start}
+use Rattle.run.specs.Run.{firing, noFiring}
+use Rattle.run_card.proofs.Read.{firings-more, firing-stopped, rest-stopped, run-followed, run-whole}
 use Rattle.run_card.proofs.run_from.Statement.{statement}
 use Rattle.run_card.proofs.run_from.Tie as tie
 
-returns : tie.Need-returns
+abbrev Inv-loop : tie.InvT-loop
+Inv-loop s at transitions denominator count run₀ to₀ i₀ t20 run to i =
+    Reading (firing transitions) count 64 noFiring s at 4 (run .firings) i to (4 + 2 * i)
+    × ((run .memory ≡ run₀ .memory) × (run .denominator ≡ denominator) × (run .count ≡ count))
+
+abbrev μ-loop : tie.MeasureT-loop
+μ-loop s at transitions denominator count run₀ to₀ i₀ t20 run to i = count - i
+
+loop-holds : tie.Need-loop-holds Inv-loop μ-loop
+loop-holds c =
+    let a = c .before .args in
+    (reading-start (firing (a .transitions)) (a .count) 64 noFiring (a .s .now) (a .at) 4 (c .before .pre), (refl, refl, refl))
+
+returns : tie.Need-returns Inv-loop μ-loop
 returns c =
     let f = c .before .before .before .before in
     let b = f .before .before in
-    let a = b .args in
-    c .refused-run .ensures ∙
-    firings-stopped (a .memory) (a .denominator) (a .transitions) (b .pre) (a .s .now) (a .at)
-    (f .all-firings .result) (f .all-firings .ensures) (c .before .before .read .given .1)
+    let a = b .before .before .args in
+    c .refused-run .ensures
+    ∙ firing-stopped (a .transitions) (b .loop .inv .0) (a .memory) (a .denominator) (f .before .loop-test .taken)
+    (sym (f .one-firing .ensures) ∙ c .before .before .f .given .1)
 
-returns-2 : tie.Need-returns-2
+loop-again : tie.Need-loop-again Inv-loop μ-loop
+loop-again c =
+    let f = c .before .before .before in
+    let b = f .before .before in
+    let e = sym (f .one-firing .ensures) ∙ c .before .f2 .given .1 in
+    (firings-more (b .before .before .args .transitions) (b .loop .inv .0) (f .before .loop-test .taken) e, b .loop .inv .1)
+
+returns-2 : tie.Need-returns-2 Inv-loop μ-loop
 returns-2 c =
-    let n = c .before .before .before .before in
-    let g = n .before .before .before in
-    let f = g .before .before in
-    let b = f .before .before in
-    let a = b .args in
-    c .refused-run2 .ensures ∙
-    rest-stopped (a .memory) (a .denominator) (a .transitions) (b .pre) (a .s .now) (a .at)
-    (f .all-firings .result) (f .all-firings .ensures) (g .read2 .given .1) (sym (n .number-line .ensures) ∙ c .before .before .r .given .1)
+    let e = c .before .before .before in
+    let n = e .before .before in
+    let l = n .before .before in
+    let a = l .before .before .before .args in
+    c .refused-run3 .ensures
+    ∙ run-followed (a .transitions) (l .before .loop .inv .0) (a .memory) (a .denominator) (l .loop-test .left)
+    (sym (n .number-line .ensures) ∙ e .n2 .given .1) (c .before .if1 .taken)
 
-returns-3 : tie.Need-returns-3
+returns-3 : tie.Need-returns-3 Inv-loop μ-loop
 returns-3 c =
-    let n = c .before .before .before .before in
-    let g = n .before .before .before in
-    let f = g .before .before in
-    let b = f .before .before in
-    let a = b .args in
-    steps-read (a .memory) (a .denominator) (a .transitions) (b .pre) (a .s .now) (a .at)
-    (f .all-firings .result) (f .all-firings .ensures) (g .read2 .given .1) (sym (n .number-line .ensures) ∙ c .before .before .r2 .given .1)
+    let e = c .before .before in
+    let n = e .before .before in
+    let l = n .before .before in
+    let a = l .before .before .before .args in
+    c .refused-run2 .ensures
+    ∙ rest-stopped (a .transitions) (l .before .loop .inv .0) (a .memory) (a .denominator) (l .loop-test .left)
+    (sym (n .number-line .ensures) ∙ e .n .given .1)
+
+returns-4 : tie.Need-returns-4 Inv-loop μ-loop
+returns-4 c =
+    let e = c .before .before in
+    let n = e .before .before in
+    let l = n .before .before in
+    let a = l .before .before .before .args in
+    let v = l .before .loop .inv in
+    run-whole (a .transitions) (v .0) (a .memory) (a .denominator) (l .loop-test .left)
+    (sym (n .number-line .ensures) ∙ e .n2 .given .1) (v .1) (c .if1 .left)
 
 pub run-from-spec : {M : Type 1} → statement M
 run-from-spec =
     tie.close
-    (tie.spec (λ c κs. search needs) (λ c. search needs) (λ c κs. search needs) (λ c. search needs) (λ c. search needs) (λ c. search needs)
-    (λ c. search needs) (λ c κs. search needs) (λ c. search needs) (λ c κs. search needs) (λ c. search needs) returns returns-2 returns-3)
+    (tie.spec Inv-loop μ-loop loop-holds (λ c. search needs) (λ c. search needs) (λ c κs. search needs) (λ c. search needs) (λ c κs. search needs)
+    returns (λ c. search needs) (λ c. search needs) (λ c. search needs) (λ c. search needs) (λ c. search needs) loop-again
+    (λ c. search needs) (λ c. search needs) (λ c. search needs) (λ c κs. search needs) (λ c. search needs) (λ c κs. search needs)
+    (λ c. search needs) (λ c. search needs) (λ c. search needs) (λ c κs. search needs) returns-2 returns-3 returns-4)

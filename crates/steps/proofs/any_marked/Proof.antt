@@ -10,10 +10,10 @@ use Rattle.steps.proofs.any_marked.Statement.{statement}
 use Rattle.steps.proofs.any_marked.Tie as tie
 
 abbrev Inv-loop : tie.InvT-loop
-Inv-loop marks transitions any₀ u₀ any u = (u ≤ transitions) × (any ≡ anyBelow (λ k. getD marks k false) u)
+Inv-loop marks any₀ u₀ any u = (u ≤ 32) × (any ≡ anyBelow (λ k. getD marks k false) u)
 
 abbrev μ-loop : tie.MeasureT-loop
-μ-loop marks transitions any₀ u₀ any u = transitions - u
+μ-loop marks any₀ u₀ any u = 32 - u
 
 loop-holds : tie.Need-loop-holds Inv-loop μ-loop
 loop-holds c = (search needs, sym (any-start (λ k. getD (c .args .marks .now) k false)))
@@ -25,7 +25,7 @@ loop-again c =
 
 returns : tie.Need-returns Inv-loop μ-loop
 returns c =
-    let e : c .before .loop .u ≡ c .before .before .args .transitions = omega arith in
+    let e : c .before .loop .u ≡ 32 = omega arith in
     rw e at (c .before .loop .inv .1)
 
 pub any-marked-spec : {M : Type 1} → statement M

@@ -10,10 +10,10 @@ use Rattle.steps.proofs.mark.Statement.{statement}
 use Rattle.steps.proofs.mark.Tie as tie
 
 abbrev Inv-loop : tie.InvT-loop
-Inv-loop take p tokens transitions marks₀ u₀ marks u = Filling (λ k. getD marks₀ k false || ltb tokens (getD take (32 * p + k) 0)) transitions marks₀ u marks
+Inv-loop take p tokens marks₀ u₀ marks u = Filling (λ k. getD marks₀ k false || ltb tokens (getD take (32 * p + k) 0)) 32 marks₀ u marks
 
 abbrev μ-loop : tie.MeasureT-loop
-μ-loop take p tokens transitions marks₀ u₀ marks u = transitions - u
+μ-loop take p tokens marks₀ u₀ marks u = 32 - u
 
 loop-holds : tie.Need-loop-holds Inv-loop μ-loop
 loop-holds c = fill-start _ _ _

@@ -22,8 +22,8 @@ marked c =
     ⊎-elim
     (λ v. v .4 ∙ v .3 .ensures)
     (λ v. v .1
-    ∙ restarted-none (net s) (s .args .later .now) (s .args .fire .instant) (s .args .since .now) (b .short-marks .result)
-    (sym (c .before .any-marked .ensures) ∙ v .0 .left))
+    ∙ restarted-none (net s) (s .args .later .now) (s .args .fire .instant) (s .args .since .now) (s .pre .0 .transitions)
+    (b .short-marks .result) (sym (c .before .any-marked .ensures) ∙ v .0 .left))
     (c .if1 .came)
 
 returns : tie.Need-returns

@@ -1,7 +1,8 @@
 -- The class of the first byte says which way the number goes.
 use mathlib.Core.Path.{sym, _∙_}
+use lib.ListN.{getD}
 use borrow.Author.Needs.{needs}
-use Rattle.text.proofs.ReadNumber.{digits-stop, digits-end, field-nothing, field-zero}
+use Rattle.text.proofs.ReadNumber.{no-digit, digits-stop, digits-end, field-nothing, field-zero}
 use Rattle.text.proofs.field_at.Statement.{statement}
 use Rattle.text.proofs.field_at.Tie as tie
 
@@ -27,7 +28,7 @@ returns-4 c =
     let k = c .before in
     let a = k .before .before .before .before .args in
     field-nothing (a .s .now) (a .at) (a .last)
-    (digits-stop (a .s .now) (a .at) (k .class-of .result) (k .before .before .if1 .left) (sym (k .class-of .ensures)) (c .match .keys3))
+    (digits-stop (a .s .now) (a .at) (k .before .before .if1 .left) (sym (no-digit (getD (a .s .now) (a .at) 0) _ (sym (k .class-of .ensures)) (c .match .keys3))))
 
 pub field-at-spec : {M : Type 1} → statement M
 field-at-spec =

@@ -1,11 +1,14 @@
--- The loop keeps the reader's state (`Run`): it stands behind one to nine digits. The class of the byte there says whether one more follows.
-use Prim.Native.Nat.{_+_, _-_, _*_}
+-- The loop keeps the reader's state (`Run`): it stands behind one to nine digits, and whether the byte there is a digit says whether one more follows.
+use Prim.Native.Nat.{_+_, _-_, _*_, _≤_}
 use native.Mathlib.Omega.{arith}
-use mathlib.Core.Logic.{⊎-elim}
-use mathlib.Core.Path.{sym, _∙_}
+use mathlib.Core.Bool.{true}
+use mathlib.Core.Path.{_≡_, sym, _∙_}
 use lib.ListN.{length, getD}
+use borrow.Author.Tests.{not-true, not-false}
 use borrow.Author.Needs.{needs}
-use Rattle.text.proofs.ReadNumber.{Shows, shows-zero, shows-digit, digits-stop, small, Run, run-start, run-more, run-long, run-closed, run-end}
+use Rattle.text.specs.Number.{isDigit}
+use Rattle.text.proofs.NumberLaws.{digit-range}
+use Rattle.text.proofs.ReadNumber.{digits-stop, small, Run, run-start, run-more, run-long, run-closed, run-end}
 use Rattle.text.proofs.number_from.Statement.{statement}
 use Rattle.text.proofs.number_from.Tie as tie
 
@@ -15,17 +18,6 @@ Inv-loop s at first last v₀ i₀ v i = Run s at v i
 abbrev μ-loop : tie.MeasureT-loop
 μ-loop s at first last v₀ i₀ v i = length s - i
 
--- the byte where the loop stands is that of the digit
-digit : (c : tie.At-match-came Inv-loop μ-loop) →
-    Shows (getD (c .before .before .before .before .before .before .args .s .now) (c .before .before .before .before .loop .i) 0) (c .match .d)
-digit c =
-    let k = c .before in
-    let l = k .before .before .before in
-    let b = getD (l .before .before .args .s .now) (l .loop .i) 0 in
-    ⊎-elim (λ w. shows-zero b _ (sym (k .class-of .ensures) ∙ w .1 .given .1) (w .2))
-    (λ w. shows-digit b _ _ (sym (k .class-of .ensures) ∙ w .1 .given .1) (w .3))
-    (c .match .came)
-
 loop-holds : tie.Need-loop-holds Inv-loop μ-loop
 loop-holds c = let b = c .before in run-start (b .args .s .now) (b .args .at) (b .args .first) (b .pre .0) (b .pre .1)
 
@@ -34,27 +26,40 @@ returns c =
     let k = c .before .before in
     let l = k .before .before .before in
     let a = l .before .before .args in
+    let none = sym (k .is-digit .ensures) ∙ not-true _ (c .before .if1 .taken) in
     rw (c .closed .ensures)
     (run-closed (a .s .now) (a .at) (l .loop .v) (l .loop .i) (l .loop .inv) (a .last)
-    (digits-stop (a .s .now) (l .loop .i) (k .class-of .result) (k .before .before .loop-test .taken) (sym (k .class-of .ensures)) (c .before .match .keys3)))
+    (digits-stop (a .s .now) (l .loop .i) (k .before .before .loop-test .taken) none))
+
+-- the byte where the loop stands is a digit
+digit : (c : tie.Else1 Inv-loop μ-loop) →
+    let l = c .before .before .before .before in
+    isDigit (getD (l .before .before .args .s .now) (l .loop .i) 0) ≡ true
+digit c = sym (c .before .is-digit .ensures) ∙ not-false _ (c .if1 .left)
+
+range : (c : tie.Else1 Inv-loop μ-loop) →
+    let l = c .before .before .before .before in
+    let b = getD (l .before .before .args .s .now) (l .loop .i) 0 in
+    (48 ≤ b) × (b ≤ 57)
+range c = digit-range _ (digit c)
 
 returns-2 : tie.Need-returns-2 Inv-loop μ-loop
 returns-2 c =
-    let k = c .before .before in
-    let l = k .before .before .before in
+    let i = c .before .before .before .before in
+    let l = i .before in
     let a = l .before .before .args in
-    run-long (a .s .now) (a .at) (l .loop .v) (l .loop .i) (l .loop .inv) _ (k .before .before .loop-test .taken) (digit (c .before)) (a .last) (c .if1 .taken)
+    run-long (a .s .now) (a .at) (l .loop .v) (l .loop .i) (l .loop .inv) (i .loop-test .taken) (digit (c .before)) (a .last) (c .if2 .taken)
 
 -- one more digit
-more : (c : tie.Else1 Inv-loop μ-loop) →
+more : (c : tie.Else2 Inv-loop μ-loop) →
     let l = c .before .before .before .before .before in
     let a = l .before .before .args in
-    Run (a .s .now) (a .at) (l .loop .v * 10 + c .before .match .d) (l .loop .i + 1)
+    Run (a .s .now) (a .at) (l .loop .v * 10 + (getD (a .s .now) (l .loop .i) 0 - 48)) (l .loop .i + 1)
 more c =
-    let k = c .before .before in
-    let l = k .before .before .before in
+    let i = c .before .before .before .before in
+    let l = i .before in
     let a = l .before .before .args in
-    run-more (a .s .now) (a .at) (l .loop .v) (l .loop .i) (l .loop .inv) _ (k .before .before .loop-test .taken) (digit (c .before)) (c .if1 .left)
+    run-more (a .s .now) (a .at) (l .loop .v) (l .loop .i) (l .loop .inv) (i .loop-test .taken) (digit (c .before)) (c .if2 .left)
 
 mul-v : tie.Need-mul-v Inv-loop μ-loop
 mul-v c = let m = more c in omega (arith, small _ _ (m .small) (m .few))
@@ -71,5 +76,6 @@ returns-3 c =
 pub number-from-spec : {M : Type 1} → statement M
 number-from-spec =
     tie.close
-    (tie.spec Inv-loop μ-loop (λ c. search needs) loop-holds (λ c. search needs) (λ c κs. search needs) (λ c. search needs) (λ c. search needs)
-    (λ c κs. search needs) returns (λ c. search needs) returns-2 mul-v add-v (λ c. search needs) (λ c. search needs) (λ c. more (c .before)) returns-3)
+    (tie.spec Inv-loop μ-loop (λ c. search needs) loop-holds (λ c. search needs) (λ c κs. search needs) (λ c κs. search needs) returns
+    (λ c. search needs) returns-2 mul-v (λ c. search needs) (λ c. range (c .before .before) .0)
+    (λ c. search (needs, range (c .before .before) .1)) add-v (λ c. search needs) (λ c. search needs) (λ c. more (c .before)) returns-3)
