@@ -6,6 +6,7 @@ use mathlib.Core.List.{List}
 use lib.ListN.{length, take}
 use Rattle.reply.specs.declared.Checked.the-variants.{Passed}
 use Rattle.reply.specs.Respond.{answer}
+use Rattle.reply.proofs.Laws.{written-answer}
 use Rattle.form.specs.Form.{found}
 use Rattle.form.proofs.Found.{also-first, also-second}
 use Rattle.net.specs.declared.Net.{Net}
@@ -15,9 +16,11 @@ use Rattle.run.specs.declared.Run.{Run}
 use Rattle.run.specs.declared.Order.{Order}
 use Rattle.run.specs.Run.{runCard, orderCard}
 use Rattle.run.proofs.Card.{runReach, orderReach, run-format, order-format}
-use Rattle.run.proofs.Ranges.{run-in-ranges}
-use Rattle.cards.specs.Cards.{readRun, readOrder, runCards, orderCards, runChecked, orderChecked, runText, orderText}
-use Rattle.cards.proofs.OnNet.{card-read-back, card-written-again, card-passes-exactly, card-short, both-prefix, both-passed}
+use Rattle.run.specs.Same.{SameRun, SameOrder}
+use Rattle.run.proofs.Ranges.{run-in-ranges, order-in-ranges}
+use Rattle.run.proofs.Same.{run-same, order-same}
+use Rattle.cards.specs.Cards.{inputOf, readRun, readOrder, runCards, orderCards, runChecked, orderChecked, runText, orderText}
+use Rattle.cards.proofs.OnNet.{card-read-back, card-written-again, card-passes-exactly, card-short, both-prefix, both-was}
 
 module _ (net : Net) where
   few : netCard .check net 1 ≡ Passed → net .transitions ≤ 32
@@ -64,6 +67,25 @@ module _ (net : Net) where
       let q = also-first (netCard .check net 1) _ p in
       (net-places net q .1, net-transitions net q .1, run-in-ranges (net .transitions) r .0 (also-second (netCard .check net 1) _ p) .few)
 
+  pub order-counts : (o : Order) → orderChecked net o ≡ Passed → (net .places ≤ 16) × (net .transitions ≤ 32) × (o .count ≤ 64)
+  order-counts o p =
+      let q = also-first (netCard .check net 1) _ p in
+      (net-places net q .1, net-transitions net q .1, order-in-ranges (net .transitions) o (also-second (netCard .check net 1) _ p) .0)
+
+  -- writing a run or an order and reading it gives back the same one
+  pub run-comes-back : (r : Run) (bytes : List ℕ) → runText net r ≡ answer bytes
+      → (back : Run) × (readRun net bytes ≡ found back (length bytes)) × SameRun back r
+  run-comes-back r bytes e =
+      let p = written-answer (runChecked net r) (runCard (net .transitions) .text r) e .0 in
+      (runCard (net .transitions) .clean r, run-read-back r bytes e, run-same (net .transitions) r (run-counts r p .2))
+
+  pub order-comes-back : (o : Order) (bytes : List ℕ) → orderText net o ≡ answer bytes
+      → (back : Order) × (readOrder net bytes ≡ found back (length bytes)) × SameOrder back o
+  order-comes-back o bytes e =
+      let p = written-answer (orderChecked net o) (orderCard (net .transitions) .text o) e .0 in
+      let few = order-in-ranges (net .transitions) o (also-second (netCard .check net 1) _ p) .0 in
+      (orderCard (net .transitions) .clean o, order-read-back o bytes e, order-same (net .transitions) o few)
+
 -- a program whose buffer holds the first k bytes loses nothing
 pub run-cards-prefix : (s : List ℕ) (k : ℕ) → netReach + runReach < k → runCards (take k s) ≡ runCards s
 run-cards-prefix = both-prefix runCard run-format
@@ -71,9 +93,15 @@ run-cards-prefix = both-prefix runCard run-format
 pub order-cards-prefix : (s : List ℕ) (k : ℕ) → netReach + orderReach < k → orderCards (take k s) ≡ orderCards s
 order-cards-prefix = both-prefix orderCard order-format
 
--- what was read passes its check
+-- what was read passes its check, and written again it is the input
 pub run-cards-passed : (s : List ℕ) {net : Net} {r : Run} {end : ℕ} → runCards s ≡ found (net, r) end → runChecked net r ≡ Passed
-run-cards-passed = both-passed runCard run-format
+run-cards-passed s e = both-was runCard run-format s e .passed
 
 pub order-cards-passed : (s : List ℕ) {net : Net} {o : Order} {end : ℕ} → orderCards s ≡ found (net, o) end → orderChecked net o ≡ Passed
-order-cards-passed = both-passed orderCard order-format
+order-cards-passed s e = both-was orderCard order-format s e .passed
+
+pub run-input-again : (s : List ℕ) {net : Net} {r : Run} {next : ℕ} → runCards s ≡ found (net, r) next → (inputOf runCard net r ≡ s) × (next ≡ length s)
+run-input-again s e = let w = both-was runCard run-format s e in (w .bytes, w .end)
+
+pub order-input-again : (s : List ℕ) {net : Net} {o : Order} {next : ℕ} → orderCards s ≡ found (net, o) next → (inputOf orderCard net o ≡ s) × (next ≡ length s)
+order-input-again s e = let w = both-was orderCard order-format s e in (w .bytes, w .end)

@@ -2,3 +2,4 @@ pub mod Behind
 pub mod Cards
 pub mod OnNet
 pub mod Places
+pub mod Values

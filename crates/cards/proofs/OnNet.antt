@@ -1,10 +1,10 @@
 -- A card of a net, whichever its form: the net is judged first, and then the card is read, checked and written as any other.
 use Prim.Native.Nat.{ℕ, _+_, _-_, _≤_, _<_}
 use native.Mathlib.Omega.{arith}
-use mathlib.Core.Path.{_≡_, refl, sym, ap, subst}
+use mathlib.Core.Path.{_≡_, refl, sym, ap, subst, _∙_}
 use mathlib.Core.Logic.{_↔_}
-use mathlib.Core.List.{List}
-use lib.ListN.{length, take, drop}
+use mathlib.Core.List.{List, _++_}
+use lib.ListN.{length, take, drop, length-append}
 use Rattle.laws.specs.Writing.{drop-take}
 use Rattle.reply.specs.declared.Checked.{Checked}
 use Rattle.reply.specs.declared.Checked.the-variants.{Passed, Refused}
@@ -12,12 +12,12 @@ use Rattle.reply.specs.Respond.{answer, writtenIf}
 use Rattle.reply.proofs.Laws.{written-answer}
 use Rattle.form.specs.Form.{Found, found, also, Form, alone}
 use Rattle.form.specs.Inverse.{Format}
-use Rattle.form.proofs.Found.{not-both, found-value, then-found, then-same, also-first, also-second}
+use Rattle.form.proofs.Found.{not-both, found-value, found-place, then-found, then-same, also-first, also-second}
 use Rattle.form.proofs.Card.{text-short, alone-read-back, alone-written-again, alone-passes-exactly, alone-prefix}
 use Rattle.net.specs.declared.Net.{Net}
 use Rattle.net.specs.Net.{netCard}
 use Rattle.net.proofs.Card.{netReach, net-inverse, net-reaches, net-prefix, net-transitions}
-use Rattle.cards.specs.Cards.{onNet, bothCards}
+use Rattle.cards.specs.Cards.{onNet, bothCards, inputOf}
 
 on-net-found : {A : Type 0} (c : Checked) (m : Found A) {a : A} {next : ℕ} → onNet c m ≡ found a next → (c ≡ Passed) × (m ≡ found a next)
 on-net-found Passed m e = (refl, e)
@@ -64,13 +64,30 @@ both-prefix f w s k h =
           (omega (arith, net-reaches .near net s 0 next 1 e)),
     ) refl))
 
--- a net and a value of it that were read pass their checks
-pub both-passed : {A : Type 0} (f : ℕ → Form A) {reach most : ℕ} → ((transitions : ℕ) → Format (transitions ≤ 32) (f transitions) reach most)
-    → (s : List ℕ) {net : Net} {a : A} {end : ℕ}
-    → bothCards f s ≡ found (net, a) end → also (netCard .check net 1) (f (net .transitions) .check a 1) ≡ Passed
-both-passed {A} f w s {net} {a} e =
+-- an input that was read as a net card and a card of that net: it is what both write, and they pass their checks
+pub record BothRead {A : Type 0} (card : ℕ → Form A) (v : Net × A) (s : List ℕ) (next : ℕ) : Type 0 where
+  pub bytes : inputOf card (v .0) (v .1) ≡ s
+  pub end : next ≡ length s
+  pub passed : also (netCard .check (v .0) 1) (card (v .0 .transitions) .check (v .1) 1) ≡ Passed
+
+both-same : {A : Type 0} (card : ℕ → Form A) {v x : Net × A} {s : List ℕ} {next end : ℕ} → found v next ≡ found x end → BothRead card v s next
+    → BothRead card x s end
+both-same card e w = rw (← found-value e, ← found-place e) w
+
+pub both-was : {A : Type 0} (card : ℕ → Form A) {reach most : ℕ} → ((transitions : ℕ) → Format (transitions ≤ 32) (card transitions) reach most)
+    → (s : List ℕ) {v : Net × A} {next : ℕ}
+    → bothCards card s ≡ found v next → BothRead card v s next
+both-was card w s e =
     let u = then-found (netCard .read s 0 1) _ e in
-    let v = then-found (alone (f (u .value .transitions)) (drop (u .place) s)) _ (u .then) in
-    let p = net-inverse .written-read (u .value) s 0 (u .place) 1 (u .first) .passed in
-    let q = alone-written-again (w (u .value .transitions) .inverse (net-transitions (u .value) p .1)) (drop (u .place) s) (v .first) .passed in
-    subst (λ (x : Net × A). also (netCard .check (x .0) 1) (f (x .0 .transitions) .check (x .1) 1) ≡ Passed) (found-value (v .then)) (rw p q)
+    let net = u .value in
+    let behind = drop (u .place) s in
+    let x = then-found (alone (card (net .transitions)) behind) _ (u .then) in
+    let first = net-inverse .written-read net s 0 (u .place) 1 (u .first) in
+    let second = alone-written-again (w (net .transitions) .inverse (net-transitions net (first .passed) .1)) behind (x .first) in
+    let text = netCard .text net in
+    both-same card (x .then)
+    (record {
+      bytes = ap (λ (l : List ℕ). text ++ l) (sym (second .bytes)) ∙ sym (first .bytes);
+      end = omega (arith, first .end, second .end, ap length (first .bytes) ∙ length-append text behind);
+      passed = rw (first .passed) (second .passed);
+    })

@@ -1,6 +1,6 @@
 -- The operations on cards of a net: what each finds, by the forms of the cards.
 use Prim.Native.Nat.{ℕ, _+_}
-use mathlib.Core.List.{List}
+use mathlib.Core.List.{List, _++_}
 use lib.ListN.{drop}
 use Rattle.reply.specs.declared.Checked.{Checked}
 use Rattle.reply.specs.declared.Checked.the-variants.{Passed, Refused}
@@ -54,3 +54,7 @@ runText net r = writtenIf (runChecked net r) (runCard (net .transitions) .text r
 
 abbrev pub orderText : Net → Order → Outcome
 orderText net o = writtenIf (orderChecked net o) (orderCard (net .transitions) .text o)
+
+-- the input that a net and a card behind it make
+abbrev pub inputOf : {A : Type 0} → (ℕ → Form A) → Net → A → List ℕ
+inputOf card net a = netCard .text net ++ card (net .transitions) .text a

@@ -1,6 +1,6 @@
 -- What makes the process believable beyond its definition: counts sum to markings and weights, each token that is taken was given before and
 -- is taken once, and the tokens of a place leave in the order in which they came.
-use Prim.Native.Nat.{ℕ, zero, suc, _+_, _-_, _≤_, _<_}
+use Prim.Native.Nat.{ℕ, zero, suc, _+_, _≤_, _<_}
 use native.Mathlib.Nat.{not-suc-le-zero, le-of-suc-le-suc}
 use native.Mathlib.Omega.{arith}
 use mathlib.Core.Path.{_≡_, refl, sym, ap, subst, _∙_}

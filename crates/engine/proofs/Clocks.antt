@@ -13,6 +13,7 @@ use Rattle.firing.specs.declared.State.{State}
 use Rattle.firing.specs.Semantics.{arcsOf, enough, enabled}
 use Rattle.firing.specs.Replay.{clockOf}
 use Rattle.firing.proofs.Clocks.{few-transitions}
+use Rattle.firing.specs.Claims.{view}
 use Rattle.operations.specs.Replay.{clockText, clocksText}
 use Rattle.engine.specs.Clocks.{clockLine}
 
@@ -24,14 +25,14 @@ module _ (net : Net) (st : State) {flags : List Bool}
       (filled-at (λ u. enough (net .take) (arcsOf net .places) (st .marking) u) (replicate 32 false) false (arcsOf net .transitions) u l
       (omega (arith, few-transitions net, length-replicate 32 false)))
 
-  line-same : (u : ℕ) → u < arcsOf net .transitions → clockText net st u ≡ clockLine flags (st .since) (st .now) u
+  line-same : (u : ℕ) → u < arcsOf net .transitions → clockText net (view st) u ≡ clockLine flags (st .since) (st .now) u
   unfolding clockOf
   line-same u l = rw (flag-at u l) refl
 
-  lines-same : (n : ℕ) → n ≤ arcsOf net .transitions → clocksText net st n ≡ joined (clockLine flags (st .since) (st .now)) n
+  lines-same : (n : ℕ) → n ≤ arcsOf net .transitions → clocksText net (view st) n ≡ joined (clockLine flags (st .since) (st .now)) n
   unfolding clocksText joined
   lines-same zero h = refl
   lines-same (suc n) h = rw (lines-same n (omega arith), line-same n h) refl
 
-  pub clocks-same : clocksText net st (arcsOf net .transitions) ≡ joined (clockLine flags (st .since) (st .now)) (arcsOf net .transitions)
+  pub clocks-same : clocksText net (view st) (arcsOf net .transitions) ≡ joined (clockLine flags (st .since) (st .now)) (arcsOf net .transitions)
   clocks-same = lines-same (arcsOf net .transitions) (omega arith)

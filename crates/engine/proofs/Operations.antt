@@ -35,6 +35,7 @@ use Rattle.cards.proofs.Cards.{run-short}
 use Rattle.schedule.specs.declared.Timetabled.{Timetabled}
 use Rattle.schedule.specs.Timetable.{timetabled, scheduledRun}
 use Rattle.schedule.proofs.Timetables.{timetabled-scheduled}
+use Rattle.firing.specs.Claims.{view}
 use Rattle.operations.specs.Replay.{endText, ended, replayOf}
 use Rattle.operations.specs.Round.{roundOf}
 use Rattle.operations.specs.Process.{processOf}
@@ -92,7 +93,7 @@ module _ (net : Net) (run : Run) {p : Played} (is : p ≡ play net (ruleOf (arcs
     process-allowed = accepted-tokens net run (judged ∙ e)
 
     module _ {entry : List ℕ} {r : Reply} {exit : List ℕ} where
-      pub replay-answered : Responded (answer (endText net atRest)) entry r exit → Responded (replayOf net run) entry r exit
+      pub replay-answered : Responded (answer (endText net (view atRest))) entry r exit → Responded (replayOf net run) entry r exit
       replay-answered v = rw (outcome-same, e) v
 
       pub process-answered : Responded (answer (processText net (orderOf (firingsOf run)))) entry r exit → Responded (processOf net run) entry r exit

@@ -8,6 +8,7 @@ ghost use Prim.Native.Nat.{_≤_};
 ghost use Rattle.laws.specs.Writing.{joined, Puts};
 ghost use Rattle.text.specs.Key.{bytes};
 ghost use Rattle.text.specs.Decimal.{field};
+ghost use Rattle.firing.specs.Claims.{view};
 ghost use Rattle.operations.specs.Replay.{endText};
 ghost use Rattle.engine.specs.Clocks.{clockLine};
 
@@ -46,7 +47,7 @@ fn put_clocks(
 
 // The end of a replay written to the front of an output; the position behind it.
 pub(crate) fn put_end(out: &mut [u8], net: Net, st: State) -> usize
-    ensures { λ r. ⌜ Puts (now (out .entry)) 0 (endText net st) r (now (out .exit)) ⌝ }
+    ensures { λ r. ⌜ Puts (now (out .entry)) 0 (endText net (view st)) r (now (out .exit)) ⌝ }
 {
     let marking = st.marking;
     let since = st.since;

@@ -17,6 +17,7 @@ ghost use Rattle.reply.specs.Respond.{answer, Responded};
 ghost use Rattle.run.specs.Run.{runCard, firingsOf, orderOf};
 ghost use Rattle.firing.specs.Semantics.{startMarking};
 ghost use Rattle.firing.specs.Tokens.{tokens};
+ghost use Rattle.firing.specs.Claims.{view};
 ghost use Rattle.causal.specs.Print.{processText};
 ghost use Rattle.cards.specs.Cards.{runChecked, orderChecked};
 ghost use Rattle.operations.specs.Replay.{endText, replayOf, replayValues, replayCards};
@@ -39,7 +40,7 @@ fn respond_run(run: Run, out: &mut [u8]) -> Reply
 
 // The end of a replay as the answer.
 fn respond_end(net: Net, st: State, out: &mut [u8]) -> Reply
-    ensures { λ r. ⌜ Responded (answer (endText net st)) (now (out .entry)) r (now (out .exit)) ⌝ }
+    ensures { λ r. ⌜ Responded (answer (endText net (view st))) (now (out .entry)) r (now (out .exit)) ⌝ }
 {
     if 1280 <= out.len() {
         return Reply::Written(end_text::put_end(out, net, st));

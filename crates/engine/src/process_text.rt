@@ -44,13 +44,6 @@ struct Turn {
     top: usize,
 }
 
-// The lower of two numbers.
-fn least(a: usize, b: usize) -> usize
-    ensures { λ r. ⌜ r ≡ min a b ⌝ }
-{
-    if a < b { a } else { b }
-}
-
 // The lower of two counts of tokens.
 fn lower(a: u8, b: u8) -> u8
     ensures { λ r. ⌜ r ≡ min a b ⌝ }
@@ -250,8 +243,8 @@ pub(crate) fn put_process(out: &mut [u8], at: usize, net: Net, run: Run) -> usiz
     requires { ⌜ tokens net (orderOf (firingsOf run)) (startMarking net) 0 ≡ Passed ⌝ }
     ensures { λ r. ⌜ Puts (now (out .entry)) at (processText net (orderOf (firingsOf run))) r (now (out .exit)) ⌝ }
 {
-    let places = least(net.places, 16);
-    let count = least(run.count, 64);
+    let places = steps::least(net.places, 16);
+    let count = steps::least(run.count, 64);
     let mut counts = [0u8; 1040];
     let mut heads = [0usize; 16];
     let mut linked = [false; 64];

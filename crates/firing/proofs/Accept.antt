@@ -1,19 +1,21 @@
--- Demand 2, first half, over whole runs: the replay accepts exactly the runs that the published semantics allows, ends in the same state, and refuses at the
--- first firing that is not allowed.
+-- Demand 2, first half, over whole runs: the replay accepts exactly the runs that the published semantics allows, ends in the same state, and refuses
+-- exactly at the first firing that is not allowed.
 use Prim.Native.Nat.{ℕ, suc, _+_, _<_, min}
+use native.Mathlib.Nat.{add-zero}
 use native.Mathlib.Omega.{arith}
 use mathlib.Core.Path.{_≡_, refl, sym, ap, subst, _∙_}
 use mathlib.Core.Bool.{Bool, true, false, cond, not, _&&_, _||_}
 use mathlib.Core.Logic.{_↔_}
-use mathlib.Core.List.{List, [], _∷_}
+use mathlib.Core.List.{List, [], _∷_, _++_}
 use lib.ListN.{length, getD, replicate, List·getD-eq-default, getD-replicate, length-replicate}
 use lib.Dec.{leb}
-use borrow.Author.Tests.{leb-false}
+use borrow.Author.Tests.{leb-false, lt-leb}
 use native.Mathlib.Decide.{decLt}
-use Rattle.laws.specs.Tests.{all-one}
+use Rattle.laws.specs.Tests.{all-one, all-fails}
 use Rattle.laws.specs.Arrays.{length-filled, filled-at}
 use Rattle.reply.specs.declared.Refusal.{Refusal}
-use Rattle.reply.specs.declared.Refusal.the-variants.{NotEnabled, OutsideInterval, TooManyTokens}
+use Rattle.reply.specs.declared.Refusal.the-variants.{Malformed, OutOfRange, LatestBelowEarliest, NoSuchTransition, NotEnabled, TooManyTokens, OutsideInterval}
+use Rattle.reply.specs.declared.Refusal.the-variants.{Untimable, OutputTooShort}
 use Rattle.reply.specs.declared.Checked.{Checked}
 use Rattle.reply.specs.declared.Checked.the-variants.{Passed, Refused}
 use Rattle.net.specs.declared.Net.{Net}
@@ -24,11 +26,13 @@ use Rattle.run.specs.declared.Run.{Run}
 use Rattle.run.specs.Run.{firingsOf}
 use Rattle.firing.specs.declared.State.{State}
 use Rattle.firing.specs.declared.Played.{Played}
-use Rattle.firing.specs.Semantics.{arcsOf, Restart, transitionAt, Timed, startMarking, enabled, taken, after, ruleOf, Initial, none, one, Allowed}
+use Rattle.firing.specs.Semantics.{arcsOf, Restart, transitionAt, Timed, startMarking, enabled, taken, after, ruleOf}
+use Rattle.firing.specs.Semantics.{Initial, Elapses, Steps, none, one, Allowed}
 use Rattle.firing.specs.Replay.{startState, waited, clockOf, timely, limited, judgedBy, fired, judged, stepOn, play, replay}
 use Rattle.firing.specs.Claims.{view, Matches, Restarting, OnTime, Because, FirstRefused}
 use Rattle.firing.proofs.Clocks.{Sound, few-places, sound-waited, sound-fired, timely-true, tokensOn, after-at, taken-enabled}
-use Rattle.firing.proofs.Agree.{passes, view-elapses, view-fires, view-bounded, play-steps, Replayed, play-complete, play-sound, matches-waited}
+use Rattle.firing.proofs.Agree.{refused-not, passes, view-elapses, view-fires, view-bounded}
+use Rattle.firing.proofs.Agree.{play-sound, play-steps, matches-waited, Replayed, play-complete}
 
 -- ---- why a judgement refuses
 module _ (net : Net) (D : ℕ) (st : State) (t n : ℕ) where
@@ -60,6 +64,41 @@ module _ (net : Net) (D : ℕ) (st : State) (t n : ℕ) where
           subst (λ (x : Refusal). Because net D x n (view st) t) (is e) (refl, p, timely-true (transitionAt net t) D (clockOf st t) .0 q, too-many sound s)
       go true false c p q s e = subst (λ (x : Refusal). Because net D x n (view st) t) (is e) (refl, p, late q)
       go false b c p q s e = subst (λ (x : Refusal). Because net D x n (view st) t) (is e) (refl, p)
+
+-- ---- and back: for that reason the judgement refuses
+module _ (net : Net) (D : ℕ) (S : Timed) (st : State) (t n : ℕ) (sound : Sound st) (m : Matches net S st) where
+  passes-limit : (p : ℕ) → p < arcsOf net .places → 255 < getD (after (arcsOf net) (S .marking) t) p 0 → limited (arcsOf net) (st .marking) t ≡ false
+  unfolding limited
+  passes-limit p l more =
+      let count = tokensOn (arcsOf net) (st .marking) t p in
+      let at : getD (after (arcsOf net) (S .marking) t) p 0 ≡ count =
+      rw (m .same-marking) (after-at (arcsOf net) (st .marking) t p l (omega (arith, few-places net, sound .tokens))) in
+      all-fails (λ q. leb (tokensOn (arcsOf net) (st .marking) t q) 255) p (arcsOf net .places) (lt-leb count 255 (omega arith)) l
+
+  timely-so : enabled (arcsOf net) (S .marking) t ≡ true → (timely (transitionAt net t) D (clockOf st t) ≡ true) ↔ OnTime net D S t
+  timely-so on = rw (m .same-clocks t on) (timely-true (transitionAt net t) D (clockOf st t))
+
+  pub judged-so : (r : Refusal) → Because net D r n S t → judged net D st t n ≡ Refused r
+  unfolding judgedBy
+  judged-so (NotEnabled k) (i, off) =
+      let off′ : enabled (arcsOf net) (st .marking) t ≡ false = rw (m .same-marking) at off in
+      rw (off′, i) refl
+  judged-so (OutsideInterval k) (i, on, missed) =
+      let on′ : enabled (arcsOf net) (st .marking) t ≡ true = rw (m .same-marking) at on in
+      rw (on′, go (timely (transitionAt net t) D (clockOf st t)) refl, i) refl
+    where
+      go : (b : Bool) → timely (transitionAt net t) D (clockOf st t) ≡ b → timely (transitionAt net t) D (clockOf st t) ≡ false
+      go true e = absurd (missed (timely-so on .0 e))
+      go false e = e
+  judged-so (TooManyTokens k) (i, on, on-time, (p, l, more)) =
+      let on′ : enabled (arcsOf net) (st .marking) t ≡ true = rw (m .same-marking) at on in
+      rw (on′, timely-so on .1 on-time, passes-limit p l more, i) refl
+  judged-so (Malformed k) b = absurd b
+  judged-so (OutOfRange k) b = absurd b
+  judged-so (LatestBelowEarliest k) b = absurd b
+  judged-so (NoSuchTransition k) b = absurd b
+  judged-so (Untimable k) b = absurd b
+  judged-so OutputTooShort b = absurd b
 
 module _ (net : Net) (restarts : Restart) (D : ℕ) where
   -- ---- the first firing that is not allowed
@@ -118,6 +157,74 @@ module _ (net : Net) (restarts : Restart) (D : ℕ) where
                 (because net D (waited st (f .wait)) (f .fire) (n + 1) (sound-waited st (f .wait) h) r (p ∙ ap Refused k));
           }
 
+  -- firings that are allowed are passed, and the rest is played from behind them
+  pub play-on : (fs gs : List Firing) (st st′ : State) (n : ℕ) → play net restarts D fs st n ≡ record { checked = Passed; state = st′ }
+      → play net restarts D (fs ++ gs) st n ≡ play net restarts D gs st′ (n + length fs)
+  unfolding play
+  play-on [] gs st st′ n e = rw (ap (λ (p : Played). p .state) e, add-zero n) refl
+  play-on (f ∷ fs) gs st st′ n e =
+      let w = waited st (f .wait) in
+      let next = fired net restarts w (f .fire) in
+      go (judged net D w (f .fire) (n + 1)) e (play-on fs gs next st′ (n + 1))
+    where
+      left : List Firing → Played
+      left l = play net restarts D l (fired net restarts (waited st (f .wait)) (f .fire)) (n + 1)
+
+      go : (c : Checked) → stepOn c st (left fs) ≡ record { checked = Passed; state = st′ }
+          → (left fs ≡ record { checked = Passed; state = st′ } → left (fs ++ gs) ≡ play net restarts D gs st′ (n + 1 + length fs))
+          → stepOn c st (left (fs ++ gs)) ≡ play net restarts D gs st′ (n + suc (length fs))
+      go Passed e ih =
+          let k : n + 1 + length fs ≡ n + suc (length fs) = omega arith in
+          ih e ∙ ap (play net restarts D gs st′) k
+      go (Refused r) e ih = absurd (refused-not (ap (λ (p : Played). p .checked) e))
+
+  -- and a refused one ends the play
+  play-stops : (f : Firing) (fs : List Firing) (st : State) (n : ℕ) (r : Refusal) → judged net D (waited st (f .wait)) (f .fire) (n + 1) ≡ Refused r
+      → play net restarts D (f ∷ fs) st n .checked ≡ Refused r
+  unfolding play
+  play-stops f fs st n r e = rw e refl
+
+  -- so what is first refused from a state that matches is what the play refuses
+  pub refused-play : Restarting net restarts → (fs : List Firing) (S : Timed) (st : State) (n : ℕ) (r : Refusal) → Sound st → Matches net S st
+      → FirstRefused net restarts D fs S n r → play net restarts D fs st n .checked ≡ Refused r
+  refused-play h fs S st n r sound m x =
+      let y = play-complete net restarts D h st n sound m (x .allowed) in
+      let k = n + length (x .front) in
+      let there = matches-waited net restarts D (y .state) (y .sound) (y .matches) (x .waits) in
+      let f = x .refused in
+      let judgement = judged-so net D (x .there) (waited (y .state) (f .wait)) (f .fire) (k + 1) (sound-waited (y .state) (f .wait) (y .sound)) there r
+      (x .because) in
+      rw (x .split, play-on (x .front) (f ∷ x .behind) st (y .state) n (y .passed)) (play-stops f (x .behind) (y .state) k r judgement)
+
+  -- ---- from every state that matches the first wait leads to the same states, and all that follows is the same
+  from-match : (S : Timed) (st : State) → Matches net S st → (w : ℕ) (X : Timed) → Elapses net (view st) w X → Elapses net S w X
+  from-match S st m w X e =
+      record {
+        marked = e .marked ∙ sym (m .same-marking);
+        clocks = λ u on. e .clocks u (rw (m .same-marking) at on) ∙ ap (λ (c : ℕ). c + w) (sym (m .same-clocks u on));
+      }
+
+  steps-from : {S₀ S B X : Timed} {fs : List Firing} (w : ℕ) → ((w : ℕ) (Y : Timed) → Elapses net S₀ w Y → Elapses net S w Y)
+      → Steps net restarts D S₀ fs B → Elapses net B w X → (C : Timed) × Steps net restarts D S fs C × Elapses net C w X
+  steps-from {S = S} {X = X} w h none e = (S, none, h w X e)
+  steps-from {B = B} w h (one {S₁ = S₁} {f = f} a g b rest) e = (B, one (h (f .wait) S₁ a) g b rest, e)
+
+  refused-from : (fs : List Firing) (S : Timed) (st : State) (n : ℕ) (r : Refusal) → Matches net S st
+      → FirstRefused net restarts D fs (view st) n r → FirstRefused net restarts D fs S n r
+  refused-from fs S st n r m x =
+      let y = steps-from (x .refused .wait) (from-match S st m) (x .allowed) (x .waits) in
+      record {
+        front = x .front;
+        refused = x .refused;
+        behind = x .behind;
+        split = x .split;
+        before = y .0;
+        there = x .there;
+        allowed = y .1;
+        waits = y .2;
+        because = x .because;
+      }
+
 -- ---- the start
 module _ (net : Net) where
   pub start-since : (u : ℕ) → getD (startState net .since) u 0 ≡ 0
@@ -163,61 +270,77 @@ module _ (net : Net) where
 whole : (p : Played) (c : Checked) → p .checked ≡ c → p ≡ record { checked = c; state = p .state }
 whole p c e = λ i. record { checked = e i; state = p .state }
 
-module _ (net : Net) (restarts : Restart) (r : Run) where
-  -- the firings of the run, from the start
+-- ---- firings from the start, and a rest
+module _ (net : Net) (restarts : Restart) (D : ℕ) (fs : List Firing) (rest : ℕ) where
   abbrev played : Played
-  played = play net restarts (r .denominator) (firingsOf r) (startState net) 0
+  played = play net restarts D fs (startState net) 0
 
-  replay-checked : replay net restarts r .checked ≡ played .checked
-  unfolding replay
-  replay-checked = refl
-
-  replay-state : replay net restarts r .state ≡ waited (played .state) (r .rest)
-  unfolding replay
-  replay-state = refl
-
-  -- what the replay accepts is allowed, and ends in the replay's state
-  pub accepted-allowed : replay net restarts r .checked ≡ Passed
-      → Allowed net restarts (r .denominator) (firingsOf r) (r .rest) (view (replay net restarts r .state))
-  accepted-allowed e =
-      let p = whole played Passed (sym replay-checked ∙ e) in
-      let steps = play-steps net restarts (r .denominator) (firingsOf r) (startState net) (played .state) 0 (start-sound net) p in
+  -- what passes is allowed, and ends in the state played
+  played-allowed : played .checked ≡ Passed → Allowed net restarts D fs rest (view (waited (played .state) rest))
+  played-allowed e =
       record {
         first = view (startState net);
         last = view (played .state);
         initial = start-initial net;
-        steps = steps;
-        rests = rw replay-state (view-elapses net restarts (r .denominator) (played .state) (r .rest)
-            (play-sound net restarts (r .denominator) (firingsOf r) (startState net) 0 (start-sound net)));
+        steps = play-steps net restarts D fs (startState net) (played .state) 0 (start-sound net) (whole played Passed e);
+        rests = view-elapses net restarts D (played .state) rest (play-sound net restarts D fs (startState net) 0 (start-sound net));
       }
 
-  module _ (h : Restarting net restarts) (end : Timed) (a : Allowed net restarts (r .denominator) (firingsOf r) (r .rest) end) where
-    again : Replayed net restarts (r .denominator) (firingsOf r) (startState net) 0 (a .last)
-    again =
-        play-complete net restarts (r .denominator) h (startState net) 0 (start-sound net)
-        (start-matches net (a .first) (a .initial)) (a .steps)
+  module _ (h : Restarting net restarts) (end : Timed) (a : Allowed net restarts D fs rest end) where
+    again : Replayed net restarts D fs (startState net) 0 (a .last)
+    again = play-complete net restarts D h (startState net) 0 (start-sound net) (start-matches net (a .first) (a .initial)) (a .steps)
 
-    -- what is allowed the replay accepts
-    pub allowed-accepted : replay net restarts r .checked ≡ Passed
-    allowed-accepted = replay-checked ∙ ap (λ (p : Played). p .checked) (again .passed)
+    -- what is allowed passes
+    allowed-played : played .checked ≡ Passed
+    allowed-played = ap (λ (p : Played). p .checked) (again .passed)
 
     -- and it ends in the state that the semantics has
-    pub same-end : Matches net end (replay net restarts r .state)
-    same-end =
+    played-end : Matches net end (waited (played .state) rest)
+    played-end =
         let e : played .state ≡ again .state = ap (λ (p : Played). p .state) (again .passed) in
-        rw (replay-state, e) (matches-waited net restarts (r .denominator) (again .state) (again .sound) (again .matches) (a .rests))
+        rw e (matches-waited net restarts D (again .state) (again .sound) (again .matches) (a .rests))
+
+  -- firings pass exactly when the published semantics allows them
+  pub played-exactly : Restarting net restarts → (played .checked ≡ Passed) ↔ ((end : Timed) × Allowed net restarts D fs rest end)
+  played-exactly h = (λ e. (view (waited (played .state) rest), played-allowed e), λ a. allowed-played h (a .0) (a .1))
+
+module _ (net : Net) (restarts : Restart) (r : Run) where
+  -- what the replay accepts is allowed, and ends in the replay's state
+  pub accepted-allowed : replay net restarts r .checked ≡ Passed
+      → Allowed net restarts (r .denominator) (firingsOf r) (r .rest) (view (replay net restarts r .state))
+  unfolding replay
+  accepted-allowed e = played-allowed net restarts (r .denominator) (firingsOf r) (r .rest) e
+
+  -- what is allowed ends in the state that the semantics has
+  pub same-end : Restarting net restarts → (end : Timed) → Allowed net restarts (r .denominator) (firingsOf r) (r .rest) end
+      → Matches net end (replay net restarts r .state)
+  unfolding replay
+  same-end h end a = played-end net restarts (r .denominator) (firingsOf r) (r .rest) h end a
 
   -- a run is accepted exactly when the published semantics allows it
   pub accepted-exactly : Restarting net restarts
       → (replay net restarts r .checked ≡ Passed) ↔ ((end : Timed) × Allowed net restarts (r .denominator) (firingsOf r) (r .rest) end)
-  accepted-exactly h = (λ e. (view (replay net restarts r .state), accepted-allowed e), λ a. allowed-accepted h (a .0) (a .1))
+  unfolding replay
+  accepted-exactly h = played-exactly net restarts (r .denominator) (firingsOf r) (r .rest) h
 
   -- a refusal names the first firing that is not allowed, and why
   pub refused-first : (why : Refusal) → replay net restarts r .checked ≡ Refused why
       → FirstRefused net restarts (r .denominator) (firingsOf r) (view (startState net)) 0 why
+  unfolding replay
   refused-first why e =
-      play-refused net restarts (r .denominator) (firingsOf r) (startState net) (played .state) 0 why (start-sound net)
-      (whole played (Refused why) (sym replay-checked ∙ e))
+      let p = play net restarts (r .denominator) (firingsOf r) (startState net) 0 in
+      play-refused net restarts (r .denominator) (firingsOf r) (startState net) (p .state) 0 why (start-sound net) (whole p (Refused why) e)
+
+  -- from whatever initial state, the run is refused with that exactly when its first firing that is not allowed is so for that reason
+  pub refused-exactly : Restarting net restarts → (S : Timed) → Initial net S → (e : Refusal)
+      → (replay net restarts r .checked ≡ Refused e) ↔ FirstRefused net restarts (r .denominator) (firingsOf r) S 0 e
+  unfolding replay
+  refused-exactly h S i e =
+      let D = r .denominator in
+      let m = start-matches net S i in (
+        λ p. refused-from net restarts D (firingsOf r) S (startState net) 0 e m (refused-first e p),
+        λ x. refused-play net restarts D h (firingsOf r) S (startState net) 0 e (start-sound net) m x,
+      )
 
 -- ---- both memory words restart what was not enabled before
 module _ (net : Net) where

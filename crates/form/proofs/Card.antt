@@ -7,7 +7,7 @@ use mathlib.Core.Path.{_≡_, refl, sym, ap, _∙_}
 use mathlib.Core.Bool.{Bool, true, false, cond}
 use mathlib.Core.Logic.{_↔_}
 use mathlib.Core.List.{List, [], _++_, append-nil}
-use lib.ListN.{length, take, drop, length-take, drop-of-length-le}
+use lib.ListN.{length, take, length-take, drop-of-length-le}
 use lib.Seq.{take-all}
 use lib.Dec.{leb}
 use borrow.Author.Tests.{leb-true, leb-false, le-leb, lt-leb}
@@ -21,10 +21,6 @@ module _ {A : Type 0} {f : Form A} (i : Inverse f) where
   -- what was written is read back, up to the slots past the counts, and reading stops at the rest
   pub read-back : (a : A) (rest : List ℕ) → f .check a 1 ≡ Passed → f .read (f .text a ++ rest) 0 1 ≡ found (f .clean a) (length (f .text a))
   read-back a rest p = i .read-written a (f .text a ++ rest) rest 0 1 p refl ∙ ap (found (f .clean a)) (zero-add (length (f .text a)))
-
-  -- what was read and is written again gives its bytes back
-  pub written-again : {a : A} {next : ℕ} (s : List ℕ) → f .read s 0 1 ≡ found a next → s ≡ f .text a ++ drop next s
-  written-again {a} {next} s e = i .written-read a s 0 next 1 e .bytes
 
   -- the check lets pass exactly the values that are read back
   pub passes-exactly : Settled f → (a : A) (rest : List ℕ) → (f .check a 1 ≡ Passed)

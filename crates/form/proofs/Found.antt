@@ -94,3 +94,20 @@ test-refused false r e = cc
 pub judged-refused : {A : Type 0} (c : Checked) (a : A) (next : ℕ) {r : Refusal} → foundIf c a next ≡ refused r → c ≡ Refused r
 judged-refused Passed a next e = let z : _≡_ {A = ℕ} 0 1 = cc in absurd (omega arith)
 judged-refused (Refused q) a next e = cc
+
+-- a reading that goes on where a check passes, to a second check: the first refusal counts
+pub judged-then : {A B : Type 0} (c c′ : Checked) (a : A) (next : ℕ) (b : B) (end : ℕ) (more : A → ℕ → Found B)
+    → (c ≡ Passed → more a next ≡ foundIf c′ b end) → andThen (foundIf c a next) more ≡ foundIf (also c c′) b end
+judged-then Passed c′ a next b end more h = h refl
+judged-then (Refused r) c′ a next b end more h = refl
+
+-- or to no check
+pub judged-more : {A B : Type 0} (c : Checked) (a : A) (next : ℕ) (b : B) (end : ℕ) (more : A → ℕ → Found B) → (c ≡ Passed → more a next ≡ found b end)
+    → andThen (foundIf c a next) more ≡ foundIf c b end
+judged-more Passed a next b end more h = h refl
+judged-more (Refused r) a next b end more h = refl
+
+-- what stands there counts only where the check passes
+pub judged-same : {A : Type 0} (c : Checked) (a b : A) (next end : ℕ) → (c ≡ Passed → found a next ≡ found b end) → foundIf c a next ≡ foundIf c b end
+judged-same Passed a b next end h = h refl
+judged-same (Refused r) a b next end h = refl

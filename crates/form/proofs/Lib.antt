@@ -8,3 +8,5 @@ pub mod Lines
 pub mod Loops
 pub mod NumberLines
 pub mod Places
+pub mod Same
+pub mod Writable

@@ -8,6 +8,7 @@ use mathlib.Core.List.{List, [], _∷_, _++_}
 use lib.ListN.{length, take, drop}
 use lib.Dec.{leb, ltb, eqb}
 use borrow.Author.Tests.{leb-true, ltb-true}
+use Rattle.laws.specs.Each.{Each}
 use Rattle.laws.specs.Slots.{firstOf, padTo, length-first, first-pad}
 use Rattle.laws.specs.Writing.{first-there, second-there, both-there, both-long}
 use Rattle.reply.specs.declared.Refusal.the-variants.{OutOfRange, NoSuchTransition}
@@ -103,16 +104,23 @@ items-there (suc k) ns s at next line e =
     items-same (suc k) (x .then) (items-more k (u .value) (x .value) s at (u .place) (x .place) v
     (items-there k (x .value) s (u .place) (x .place) line (x .first)))
 
-items-back : (low high : ℕ) → high < 10 ^ 9 → (ns s rest : List ℕ) (at line : ℕ) → allRanged low high ns ≡ true → drop at s ≡ itemsText ns ++ rest
-    → itemsAt (length ns) s at line ≡ found ns (at + length (itemsText ns))
-unfolding itemsText itemsAt allRanged
-items-back low high h [] s rest at line p e = ap (found []) (sym (add-zero at))
-items-back low high h (n ∷ ns) s rest at line p e =
-    let t = field n (eqb (length ns) 0) in
+-- numbers that all lie in a range are all short
+pub ranged-each : (low high : ℕ) → high < 10 ^ 9 → (ns : List ℕ) → allRanged low high ns ≡ true → Each (λ n. n < 10 ^ 9) ns
+unfolding allRanged
+ranged-each low high h [] p = tt
+ranged-each low high h (n ∷ ns) p =
     let q = and-eq-true-iff (leb low n && leb n high) (allRanged low high ns) .0 p in
     let m : n ≤ high = leb-true n high (and-eq-true-iff (leb low n) (leb n high) .0 (q .0) .1) in
-    let e₁ = field-text n at (eqb (length ns) 0) s (itemsText ns ++ rest) (omega arith) (first-there s t (itemsText ns) rest at e) in
-    let e₂ = items-back low high h ns s rest (at + length t) line (q .1) (second-there s t (itemsText ns) rest at e) in
+    (omega arith, ranged-each low high h ns (q .1))
+
+pub items-back : (ns s rest : List ℕ) (at line : ℕ) → Each (λ n. n < 10 ^ 9) ns → drop at s ≡ itemsText ns ++ rest
+    → itemsAt (length ns) s at line ≡ found ns (at + length (itemsText ns))
+unfolding itemsText itemsAt
+items-back [] s rest at line small e = ap (found []) (sym (add-zero at))
+items-back (n ∷ ns) s rest at line small e =
+    let t = field n (eqb (length ns) 0) in
+    let e₁ = field-text n at (eqb (length ns) 0) s (itemsText ns ++ rest) (small .0) (first-there s t (itemsText ns) rest at e) in
+    let e₂ = items-back ns s rest (at + length t) line (small .1) (second-there s t (itemsText ns) rest at e) in
     rw (e₁, e₂) (ap (found (n ∷ ns)) (both-long t (itemsText ns) at))
 
 items-near : (k : ℕ) (ns s : List ℕ) (at next line : ℕ) → itemsAt k s at line ≡ found ns next → next ≤ at + k * 10
@@ -152,7 +160,7 @@ module _ (k size low high : ℕ) where
         read-written = λ ns s rest at line p e.
             let m = firstOf k 0 ns in
             let t = test-passed (allRanged low high m) (OutOfRange line) p in
-            rw (ap (λ (j : ℕ). itemsAt j s at line) (sym (length-first k 0 ns)) ∙ items-back low high h m s rest at line t e, p) refl;
+            rw (ap (λ (j : ℕ). itemsAt j s at line) (sym (length-first k 0 ns)) ∙ items-back m s rest at line (ranged-each low high h m t) e, p) refl;
         written-read = λ ns s at next line e.
             let u = then-found (itemsAt k s at line) _ e in
             let c = itemsRanged low high (u .value) line in

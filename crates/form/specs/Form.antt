@@ -1,5 +1,5 @@
 -- A form says how a part of a card is written, checked and read. Every card is one form, put together from the forms of its lines, so that
--- reader, writer and check are foundIf by one description.
+-- reader, writer and check are given by one description.
 use Prim.Native.Nat.{ℕ, zero, suc, _+_, min}
 use mathlib.Core.Bool.{cond}
 use mathlib.Core.List.{List, [], _∷_, _++_, map}

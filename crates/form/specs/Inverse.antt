@@ -6,7 +6,7 @@ use lib.ListN.{length, take, drop}
 use Rattle.reply.specs.declared.Refusal.{Refusal}
 use Rattle.reply.specs.declared.Checked.the-variants.{Passed}
 use Rattle.reply.specs.Refusal.{positionOf}
-use Rattle.form.specs.Form.{found, refused, Form}
+use Rattle.form.specs.Form.{found, refused, foundIf, Form}
 
 -- a value that was read: its text stands there, it passes the check, and it is clean
 pub record WasRead {A : Type 0} (f : Form A) (a : A) (s : List ℕ) (at next line : ℕ) : Type 0 where
@@ -49,3 +49,9 @@ pub record Format {A : Type 0} (P : Type 0) (f : Form A) (reach most : ℕ) : Ty
   pub inverse : P → Inverse f
   pub reaches : P → Reaches f reach
   pub placed : P → Placed f most
+
+-- a value is checked as its text is read, `cut` being the value with each number cut to what can be written: reading that text finds the clean value,
+-- or the refusal of the check
+pub record Told {A : Type 0} (f : Form A) (cut : A → A) : Type 0 where
+  pub told : (a : A) (s rest : List ℕ) (at line : ℕ) → drop at s ≡ f .text (cut a) ++ rest
+      → f .read s at line ≡ foundIf (f .check a line) (f .clean a) (at + length (f .text (cut a)))

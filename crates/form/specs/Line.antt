@@ -23,6 +23,10 @@ formed line NoNumber = refused (Malformed line)
 abbrev pub ranged : ℕ → ℕ → ℕ → ℕ → Checked
 ranged low high n line = cond (leb low n && leb n high) Passed (Refused (OutOfRange line))
 
+-- a number as it can be written: one that is too long stands as the largest of nine digits, which is outside of every range
+abbrev pub writable : ℕ → ℕ
+writable n = min n 999999999
+
 -- a transition that is not in the net is 4
 abbrev pub listed : ℕ → ℕ → ℕ → Checked
 listed transitions n line = cond (ltb n transitions) Passed (Refused (NoSuchTransition line))

@@ -5,7 +5,7 @@ use native.Mathlib.Numerals.{add-one}
 use native.Mathlib.Omega.{arith}
 use native.Mathlib.Decide.{decLt}
 use mathlib.Core.Path.{_≡_, refl, sym, ap, _∙_}
-use mathlib.Core.List.{List}
+use mathlib.Core.List.{List, [], _∷_, map}
 use mathlib.Core.Bool.{Bool, true, false}
 use mathlib.Core.Logic.{⊎-elim}
 use lib.Dec.{eqb}
@@ -105,6 +105,17 @@ module _ (f : ℕ → ℕ) (l : List ℕ) (n k : ℕ) (h : k < n) where
       go : Dec (k < length l) → f k ≤ getD (filled f n l) k 0
       go (yes b) = rw (filled-at f l 0 n k h b) (le-refl (f k))
       go (no b) = omega (arith, List·getD-eq-default l 0 {n = k} (omega arith))
+
+-- what is made of each element
+map-set : {A B : Type 0} (h : A → B) (l : List A) (i : ℕ) (a : A) → map h (set l i a) ≡ set (map h l) i (h a)
+map-set h [] i a = refl
+map-set h (b ∷ l) zero a = refl
+map-set h (b ∷ l) (suc i) a = ap (λ (m : List _). h b ∷ m) (map-set h l i a)
+
+pub filled-mapped : {A B : Type 0} (h : A → B) (f : ℕ → A) (l : List A) (n : ℕ) → map h (filled f n l) ≡ filled (λ i. h (f i)) n (map h l)
+unfolding filled
+filled-mapped h f l zero = refl
+filled-mapped h f l (suc n) = map-set h (filled f n l) n (f n) ∙ ap (λ (m : List _). set m n (h (f n))) (filled-mapped h f l n)
 
 -- ---- what a loop that fills an array keeps
 pub record Filling {A : Type 0} (f : ℕ → A) (n : ℕ) (old : List A) (k : ℕ) (new : List A) : Type 0 where

@@ -8,7 +8,7 @@ use lib.ListN.{length, getD, replicate, length-map, length-append, length-replic
 use native.Mathlib.Numerals.{add-one}
 use mathlib.Core.Bool.{Bool, true, false}
 use lib.Dec.{eqb}
-use lib.Seq.{length-take-le, take-suc, set-append-seam, append-snoc, drop-cons}
+use lib.Seq.{ext-getD, length-take-le, take-suc, set-append-seam, append-snoc, drop-cons}
 use borrow.Author.Tests.{eqb-true, eqb-false, eq-eqb, ne-eqb}
 
 -- ---- A list in an array: its first elements count, and the slots behind them hold a filler.
@@ -37,6 +37,13 @@ module _ {ℓ} {A : Type ℓ} where
   getD-first (suc n) d [] (suc i) h = getD-first n d [] i (le-of-suc-le-suc h)
   getD-first (suc n) d (a ∷ l) zero h = refl
   getD-first (suc n) d (a ∷ l) (suc i) h = getD-first n d l i (le-of-suc-le-suc h)
+
+  -- lists that agree in the first n slots
+  pub first-same : (n : ℕ) (d : A) (l m : List A) → ((i : ℕ) → i < n → getD l i d ≡ getD m i d) → firstOf n d l ≡ firstOf n d m
+  first-same n d l m h =
+      let long = length-first n d l in
+      ext-getD d (firstOf n d l) (firstOf n d m) (long ∙ sym (length-first n d m))
+      (λ i b. let c : i < n = omega arith in getD-first n d l i c ∙ h i c ∙ sym (getD-first n d m i c))
 
   -- within the list the filler does not matter
   pub getD-within : (l : List A) (i : ℕ) (d d′ : A) → i < length l → getD l i d ≡ getD l i d′
@@ -105,3 +112,22 @@ last-left i count h = go (eqb (i + 1) count) refl
     go : (t : Bool) → eqb (i + 1) count ≡ t → t ≡ eqb (count - (i + 1)) 0
     go true e = let same = eqb-true (i + 1) count e in sym (eq-eqb (count - (i + 1)) 0 (omega arith))
     go false e = let other = eqb-false (i + 1) count e in sym (ne-eqb (count - (i + 1)) 0 (λ z. other (omega arith)))
+
+-- ---- what is made of each element of the first slots
+pub mapped-same : {A B : Type 0} (f : A → B) (n : ℕ) (d : A) (l m : List A) → ((i : ℕ) → i < n → f (getD l i d) ≡ f (getD m i d))
+    → map f (firstOf n d l) ≡ map f (firstOf n d m)
+mapped-same {A} f n d l m h =
+    ext-getD (f d) (map f (firstOf n d l)) (map f (firstOf n d m)) (long l ∙ sym (long m))
+    (λ i b. let k : i < n = omega (arith, long l) in there l i k ∙ h i k ∙ sym (there m i k))
+  where
+    long : (x : List A) → length (map f (firstOf n d x)) ≡ n
+    long x = length-map (firstOf n d x) f ∙ length-first n d x
+
+    there : (x : List A) (i : ℕ) → i < n → getD (map f (firstOf n d x)) i (f d) ≡ f (getD x i d)
+    there x i k = List·getD-map f (firstOf n d x) i d ∙ ap f (getD-first n d x i k)
+
+pub first-mapped : {A : Type 0} (f : A → A) (n : ℕ) (d : A) → f d ≡ d → (l : List A) → firstOf n d (map f l) ≡ map f (firstOf n d l)
+unfolding firstOf
+first-mapped f zero d e l = refl
+first-mapped f (suc n) d e [] = λ i. sym e i ∷ first-mapped f n d e [] i
+first-mapped f (suc n) d e (a ∷ l) = ap (λ (m : List _). f a ∷ m) (first-mapped f n d e l)

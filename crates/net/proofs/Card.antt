@@ -7,9 +7,8 @@ use mathlib.Core.Path.{_≡_, refl, sym, ap, subst, _∙_}
 use mathlib.Core.Bool.{Bool, true, false, cond, _&&_}
 use mathlib.Core.Logic.{_↔_}
 use mathlib.Core.List.{List, _++_, map}
-use lib.ListN.{length, getD, take, drop, replicate, length-replicate, length-map}
+use lib.ListN.{length, getD, take, drop, replicate, length-map}
 use lib.Dec.{lit<, leb, ltb}
-use Rattle.laws.specs.Arrays.{filled-at}
 use Rattle.laws.specs.Each.{each-append, each-image, each-replicate, each-at}
 use Rattle.laws.specs.Slots.{firstOf, padTo, length-first, length-pad, getD-first}
 use Rattle.reply.specs.declared.Refusal.{Refusal}
@@ -30,20 +29,20 @@ use Rattle.form.proofs.Combine.{was-same}
 use Rattle.form.proofs.Lines.{formed-value, ranged-within, ranged-small, word-was}
 use Rattle.form.proofs.Places.{OwnLine, line-placed, field-own}
 use Rattle.form.proofs.Format.{keyed-format, pair-format, held-format, times-format, ranged-format, items-format, counted-format}
-use Rattle.form.proofs.Card.{read-back, written-again, passes-exactly, text-short}
+use Rattle.form.proofs.Card.{read-back, passes-exactly, text-short}
 use Rattle.net.specs.declared.Latest.{Latest}
 use Rattle.net.specs.declared.Latest.the-variants.{Unbounded, Ticks}
 use Rattle.net.specs.declared.Net.{Net}
-use Rattle.net.specs.Net.{latestChecked, latest, weights, Row, toRow, fromRow, row, noRow, noTransition, starts, rows, body, netLines, rowAt, rowsOf}
+use Rattle.net.specs.Net.{latestChecked, latest, weights, Row, toRow, fromRow, row, noRow, noTransition, starts, rows, body, netLines, rowsOf}
 use Rattle.net.specs.Net.{toNet, fromNet, netCard}
-use Rattle.net.proofs.Rows.{Full, rows-back}
+use Rattle.net.proofs.Rows.{Full, row-there, rows-back}
 
 -- where the word stands there is no number
 word-no-number : (s : List ℕ) (at : ℕ) → beginsWith (bytes "inf\n") (drop at s) ≡ true → fieldAt s at true ≡ NoNumber
 unfolding digitsOf fieldAt
 word-no-number s at t = rw (begins-split (bytes "inf\n") s at t .0) refl
 
-number-no-word : (n at next : ℕ) (s : List ℕ) → fieldAt s at true ≡ Value n next → beginsWith (bytes "inf\n") (drop at s) ≡ false
+pub number-no-word : (n at next : ℕ) (s : List ℕ) → fieldAt s at true ≡ Value n next → beginsWith (bytes "inf\n") (drop at s) ≡ false
 number-no-word n at next s e = go (beginsWith (bytes "inf\n") (drop at s)) refl
   where
     go : (t : Bool) → beginsWith (bytes "inf\n") (drop at s) ≡ t → beginsWith (bytes "inf\n") (drop at s) ≡ false
@@ -187,10 +186,6 @@ pub net-read-back : (n : Net) (rest : List ℕ) → netCard .check n 1 ≡ Passe
     → netCard .read (netCard .text n ++ rest) 0 1 ≡ found (netCard .clean n) (length (netCard .text n))
 net-read-back = read-back net-inverse
 
--- what was read and is written again gives its bytes back
-pub net-written-again : {n : Net} {next : ℕ} (s : List ℕ) → netCard .read s 0 1 ≡ found n next → s ≡ netCard .text n ++ drop next s
-net-written-again = written-again net-inverse
-
 -- the check lets pass exactly the nets that are read back
 pub net-passes-exactly : (n : Net) (rest : List ℕ)
     → (netCard .check n 1 ≡ Passed) ↔ (netCard .read (netCard .text n ++ rest) 0 1 ≡ found (netCard .clean n) (length (netCard .text n)))
@@ -230,7 +225,6 @@ net-start n e p h =
 
 -- its lower bounds
 pub net-earliest : (n : Net) → netCard .check n 1 ≡ Passed → (t : ℕ) → t < n .transitions → getD (n .table) t noTransition .earliest ≤ 1000
-unfolding rowsOf
 net-earliest n p t h =
     let few = net-transitions n p .1 in
     let k = min (n .transitions) 32 in
@@ -240,6 +234,5 @@ net-earliest n p t h =
     let each = checks-each (row (n .places)) P (λ r line e. ranged-within 0 1000 (r .interval .earliest) line
     (also-first (ranged 0 1000 (r .interval .earliest) line) _ e) .1) listed _
     (also-second (starts (n .places) .check (n .start) 3) _ (behind-counts n p)) in
-    let found-row = getD-first k noRow (rowsOf n) t (omega arith)
-    ∙ filled-at (rowAt n) (replicate 32 noRow) noRow 32 t (omega arith) (omega (arith, length-replicate 32 noRow)) in
+    let found-row = getD-first k noRow (rowsOf n) t (omega arith) ∙ row-there n t (omega arith) in
     subst P found-row (each-at P noRow listed each t (omega (arith, length-first k noRow (rowsOf n))))

@@ -7,6 +7,7 @@ use lib.ListN.{length, getD, replicate, length-replicate, List·getD-map}
 use lib.Seq.{ext-getD}
 use Rattle.laws.specs.Arrays.{filled, length-filled, filled-at}
 use Rattle.laws.specs.Each.{Each, each-at}
+use Rattle.net.specs.declared.Net.{Net}
 use Rattle.net.specs.Net.{Row, noRow, takesIn, givesIn, takeOf, giveOf, rowAt, rowsOf, toNet}
 
 module _ (rs : List Row) (t p : ℕ) (l : t < 32) (h : p < 16) where
@@ -34,11 +35,19 @@ abbrev pub Full : Row → Type 0
 Full r = (length (r .take) ≡ 16) × (length (r .give) ≡ 16)
 
 -- sixteen numbers told one by one
+pub sixteen-at : (f : ℕ → ℕ) (p : ℕ) → p < 16 → getD (filled f 16 (replicate 16 0)) p 0 ≡ f p
+sixteen-at f p h = filled-at f (replicate 16 0) 0 16 p h (omega (arith, length-replicate {A = ℕ} 16 0))
+
 sixteen : (f : ℕ → ℕ) (l : List ℕ) → length l ≡ 16 → ((p : ℕ) → p < 16 → f p ≡ getD l p 0) → filled f 16 (replicate 16 0) ≡ l
 sixteen f l e h =
     let long : length (filled f 16 (replicate 16 0)) ≡ 16 = length-filled f (replicate 16 0) 16 ∙ length-replicate {A = ℕ} 16 0 in
     ext-getD 0 (filled f 16 (replicate 16 0)) l (long ∙ sym e)
-    (λ p b. let m : p < 16 = omega arith in filled-at f (replicate 16 0) 0 16 p m (omega (arith, length-replicate {A = ℕ} 16 0)) ∙ h p m)
+    (λ p b. let m : p < 16 = omega arith in sixteen-at f p m ∙ h p m)
+
+-- the row of a transition among all rows
+pub row-there : (n : Net) (t : ℕ) → t < 32 → getD (rowsOf n) t noRow ≡ rowAt n t
+unfolding rowsOf
+row-there n t h = filled-at (rowAt n) (replicate 32 noRow) noRow 32 t h (omega (arith, length-replicate 32 noRow))
 
 module _ (places transitions : ℕ) (start : List ℕ) (rs : List Row) (long : length rs ≡ 32) (full : Each Full rs) where
   row-back : (t : ℕ) → t < 32 → rowAt (toNet (places, (transitions, (start, rs)))) t ≡ getD rs t noRow
@@ -56,4 +65,4 @@ module _ (places transitions : ℕ) (start : List ℕ) (rs : List Row) (long : l
       let f = rowAt (toNet (places, (transitions, (start, rs)))) in
       let many : length (filled f 32 (replicate 32 noRow)) ≡ 32 = length-filled f (replicate 32 noRow) 32 ∙ length-replicate 32 noRow in
       ext-getD noRow (filled f 32 (replicate 32 noRow)) rs (many ∙ sym long)
-      (λ t b. let m : t < 32 = omega arith in filled-at f (replicate 32 noRow) noRow 32 t m (omega (arith, length-replicate 32 noRow)) ∙ row-back t m)
+      (λ t b. let m : t < 32 = omega arith in row-there (toNet (places, (transitions, (start, rs)))) t m ∙ row-back t m)

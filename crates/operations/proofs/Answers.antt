@@ -19,10 +19,13 @@ use Rattle.net.specs.Net.{netCard}
 use Rattle.net.proofs.Card.{net-earliest}
 use Rattle.run.specs.declared.Run.{Run}
 use Rattle.run.specs.declared.Order.{Order}
-use Rattle.run.specs.Run.{runCard, firesOf}
+use Rattle.run.specs.Run.{runCard, firingsOf, firesOf}
 use Rattle.firing.specs.declared.State.{State}
-use Rattle.firing.specs.Semantics.{arcsOf, Restart, transitionAt}
+use Rattle.firing.specs.declared.Played.{Played}
+use Rattle.firing.specs.Semantics.{arcsOf, Restart, transitionAt, ruleOf, Allowed}
 use Rattle.firing.specs.Replay.{replay}
+use Rattle.firing.specs.Claims.{view}
+use Rattle.firing.proofs.Accept.{accepted-allowed}
 use Rattle.timing.specs.Schedule.{Scheduled, timed, unschedulable}
 use Rattle.timing.specs.Rounding.{timetableRun}
 use Rattle.cards.specs.Cards.{readRun, runChecked}
@@ -30,16 +33,29 @@ use Rattle.cards.proofs.Cards.{run-reads-itself}
 use Rattle.operations.specs.Operation.{onceChecked}
 use Rattle.operations.specs.Replay.{endText, ended}
 use Rattle.operations.specs.Timetable.{scheduleText}
+use Rattle.operations.specs.Outcomes.{OnRun, replaying, rounding, processing, workOf}
 use Rattle.operations.specs.Claims.{WholeTickRun}
 
-no-answer : {r : Refusal} {bytes : List ℕ} → refusal r ≡ answer bytes → ⊥
+pub no-answer : {r : Refusal} {bytes : List ℕ} → refusal r ≡ answer bytes → ⊥
 no-answer e = let z : _≡_ {A = ℕ} 0 1 = cc in omega arith
 
 -- the lower bounds of a net that passes its check
 pub earliest-within : (net : Net) → netCard .check net 1 ≡ checked.Passed → (t : ℕ) → t < arcsOf net .transitions → transitionAt net t .earliest ≤ 1000
 earliest-within net q t l = net-earliest net q t (omega (arith, min-le-left (net .transitions) 32))
 
+-- ---- the end of a replay
+end-answered : (net : Net) (c : Checked) (st : State) → Answered (ended net c st) ↔ (c ≡ checked.Passed)
+end-answered net c st = (go c, λ e. (endText net (view st), rw e refl))
+  where
+    go : (c : Checked) → Answered (ended net c st) → c ≡ checked.Passed
+    go checked.Passed a = refl
+    go (checked.Refused r) a = absurd (no-answer (a .1))
+
 -- ---- behind a check
+once-refusal : (c : Checked) (bytes : List ℕ) (e : Refusal) → (onceChecked c (answer bytes) ≡ refusal e) ↔ (c ≡ checked.Refused e)
+once-refusal checked.Passed bytes e = (λ q. absurd (no-answer (sym q)), λ q. let z : _≡_ {A = ℕ} 0 1 = cc in absurd (omega arith))
+once-refusal (checked.Refused q) bytes e = (λ p. cc, λ p. cc)
+
 pub once-answer : (c : Checked) (o : Outcome) (bytes : List ℕ) → (onceChecked c o ≡ answer bytes) ↔ ((c ≡ checked.Passed) × (o ≡ answer bytes))
 once-answer c o bytes = (go c, λ p. rw (p .0) (p .1))
   where
@@ -53,13 +69,25 @@ once-answered c o = (
   λ p. (p .1 .0, once-answer c o (p .1 .0) .1 (p .0, p .1 .1)),
 )
 
--- ---- the end of a replay
-pub end-answered : (net : Net) (c : Checked) (st : State) → Answered (ended net c st) ↔ (c ≡ checked.Passed)
-end-answered net c st = (go c, λ e. (endText net st, rw e refl))
-  where
-    go : (c : Checked) → Answered (ended net c st) → c ≡ checked.Passed
-    go checked.Passed a = refl
-    go (checked.Refused r) a = absurd (no-answer (a .1))
+-- ---- the work on a run that passed its check: refused as its replay is, and else answered
+module _ (net : Net) (r : Run) where
+  -- the replay under the memory word of the run
+  abbrev pub replayed : Played
+  replayed = replay net (ruleOf (arcsOf net) (r .memory)) r
+
+  pub work-refused : (what : OnRun) (e : Refusal) → (workOf what net r ≡ refusal e) ↔ (replayed .checked ≡ checked.Refused e)
+  work-refused replaying e = go (replayed .checked)
+    where
+      go : (c : Checked) → (ended net c (replayed .state) ≡ refusal e) ↔ (c ≡ checked.Refused e)
+      go checked.Passed = (λ q. absurd (no-answer (sym q)), λ q. let z : _≡_ {A = ℕ} 0 1 = cc in absurd (omega arith))
+      go (checked.Refused q) = (λ p. cc, λ p. cc)
+  work-refused rounding e = once-refusal (replayed .checked) _ e
+  work-refused processing e = once-refusal (replayed .checked) _ e
+
+  pub work-answered : (what : OnRun) → Answered (workOf what net r) ↔ (replayed .checked ≡ checked.Passed)
+  work-answered replaying = end-answered net (replayed .checked) (replayed .state)
+  work-answered rounding = (λ a. once-answered (replayed .checked) _ .0 a .0, λ p. once-answered (replayed .checked) _ .1 (p, (_, refl)))
+  work-answered processing = (λ a. once-answered (replayed .checked) _ .0 a .0, λ p. once-answered (replayed .checked) _ .1 (p, (_, refl)))
 
 -- ---- a schedule
 module _ (net : Net) (o : Order) where
@@ -92,4 +120,9 @@ module _ (net : Net) (restarts : Restart) (r : Run) (ticks : r .denominator ≡ 
         whole-ticks = ticks;
         checked = p;
         accepted = a;
+        allowed = (
+          view (replay net restarts r .state),
+          subst (λ (D : ℕ). Allowed net restarts D (firingsOf r) (r .rest) (view (replay net restarts r .state)))
+              ticks (accepted-allowed net restarts r a),
+        );
       }

@@ -1,96 +1,277 @@
--- Demand 3 of the engine's operations, and last of all demand 2, for every accepted net, every restart rule, and every order and run from the start
--- marking with every clock at 0.
--- The three demands beside their theorems: docs/DEMANDS.md. Each claim on an operation follows from the law of its definition in the crate timing.
-use Prim.Native.Nat.{ℕ, _≤_}
+-- The demands, proved as specs/Demands.antt states them, under the same names. Each follows from a law of its subject in the crates below, and from what an
+-- operation does around it: check or read, reply, write.
+use Prim.Native.Nat.{ℕ, _+_}
+use native.Mathlib.Nat.{zero-add}
 use native.Mathlib.Omega.{arith}
-use mathlib.Core.Path.{_≡_, refl, sym, ap}
+use mathlib.Core.Path.{_≡_, refl, sym, ap, subst, _∙_}
 use mathlib.Core.Logic.{_↔_}
-use mathlib.Core.List.{List, []}
-use lib.ListN.{length}
+use mathlib.Core.List.{List, [], _++_, append-nil}
+use lib.ListN.{length, take, drop}
+use lib.Seq.{take-append-seam}
+use Rattle.reply.specs.declared.Refusal.{Refusal}
+use Rattle.reply.specs.declared.Refusal.the-variants.{OutputTooShort}
+use Rattle.reply.specs.declared.Checked.{Checked}
 use Rattle.reply.specs.declared.Checked.the-variants as checked
 use Rattle.reply.specs.declared.Checked.the-variants.{Passed}
-use Rattle.reply.specs.declared.Reply.the-variants.{Written}
-use Rattle.reply.specs.Respond.{Outcome, answer, Answered, replyTo}
+use Rattle.reply.specs.Respond.{answer, refusal, writtenIf, Answered}
 use Rattle.reply.proofs.Laws as reply-laws
-use Rattle.form.specs.Form.{found}
+use Rattle.reply.proofs.Laws.{written-answer, checked-refused}
+use Rattle.form.specs.Form.{Found, found, refused, foundIf}
 use Rattle.form.proofs.Found.{also-first, also-second}
 use Rattle.net.specs.declared.Net.{Net}
 use Rattle.net.specs.Net.{netCard}
+use Rattle.net.specs.Same.{writableNet}
+use Rattle.net.proofs.Card.{net-inverse, net-placed}
+use Rattle.net.proofs.Same.{net-same, net-comes-back}
+use Rattle.net.proofs.Writable.{net-told}
 use Rattle.run.specs.declared.Run.{Run}
 use Rattle.run.specs.declared.Order.{Order}
-use Rattle.run.specs.Run.{runCard, orderCard, firesOf}
+use Rattle.run.specs.Run.{runCard, orderCard, firingsOf, firesOf}
+use Rattle.run.proofs.Same.{run-same, order-same}
 use Rattle.run.proofs.Ranges.{run-in-ranges}
-use Rattle.firing.specs.Semantics.{arcsOf, Restart, ruleOf}
+use Rattle.firing.specs.Semantics.{arcsOf, Restart, Timed, ruleOf, Initial, Allowed}
 use Rattle.firing.specs.Replay.{replay}
-use Rattle.firing.proofs.Accept.{accepted-exactly, rule-restarting}
+use Rattle.firing.proofs.Accept as accept
+use Rattle.firing.proofs.Accept.{same-end, rule-restarting}
 use Rattle.timing.specs.Schedule.{Scheduled, schedule}
 use Rattle.timing.specs.Rounding.{roundedRun, timetableRun}
 use Rattle.timing.proofs.Timings.{ticks-exactly}
+use Rattle.timing.proofs.Origins as origins
 use Rattle.timing.proofs.Scheduled.{schedule-refused, scheduled-timing, scheduled-earliest, scheduled-exactly, untimable-none, untimable-allowed}
+use Rattle.timing.proofs.Rounded as rounded
 use Rattle.timing.proofs.Rounded.{fires-few, timetable-order, timetable-waits, timetable-clean, timetable-accepted, rounded-clean, rounded-order}
 use Rattle.timing.proofs.Rounded.{rounded-instant, rounded-end, rounded-accepted, same-markings, rounded-checked, scheduled-within, scheduled-checked}
-use Rattle.cards.specs.Cards.{runChecked, orderChecked, runCards, orderCards}
-use Rattle.cards.proofs.Cards.{run-cards-passed, order-cards-passed}
-use Rattle.operations.specs.Replay.{replayOf}
-use Rattle.operations.specs.Timetable.{scheduleText, timetableBy, timetableValues, timetableCards}
-use Rattle.operations.specs.Round.{roundBy, roundValues, roundCards}
-use Rattle.operations.specs.Demands.{TicksExactlyParts, TimetableExactly, TokensFirst, UntimableExactlyAt, UntimableWhenNone, TimetableEarliest}
-use Rattle.operations.specs.Demands.{RoundExactly, RoundWhole, ReplayExactly}
-use Rattle.operations.proofs.Answers.{earliest-within, once-answer, once-answered, end-answered, schedule-answer, untimable-told, whole-tick-run}
+use Rattle.timing.proofs.RoundedClocks.{rounded-instants-near, rounded-end-near, rounded-clocks, rounded-end-clocks}
+use Rattle.cards.specs.Cards.{inputOf, runChecked, orderChecked, runCards}
+use Rattle.cards.proofs.Cards.{run-counts, order-counts, run-cards-passed, order-cards-passed, run-cards-prefix, order-cards-prefix}
+use Rattle.cards.proofs.Cards.{run-written-again, order-written-again, run-comes-back, order-comes-back, run-input-again, order-input-again}
+use Rattle.cards.proofs.Values.{run-cards-told, order-cards-told, run-input-back, order-input-back}
+use Rattle.operations.specs.Operation.{onceChecked, onceRead}
+use Rattle.operations.specs.Replay.{endText, ended, replayOf}
+use Rattle.operations.specs.Timetable.{scheduleText, timetableOf, timetableValues}
+use Rattle.operations.specs.Outcomes.{OnRun, replaying, Operation, of-run, of-order, of-run-cards, of-order-cards, write-net, write-run, write-order}
+use Rattle.operations.specs.Outcomes.{workOf, valuesOf, outcomeOf}
+use Rattle.operations.specs.Demands.{WrittenExactly, BytesSettled, RefusedExactly, TooShortExactly, NothingAltered, RunAsCards, OrderAsCards, CardsFirst}
+use Rattle.operations.specs.Demands.{SlotsNoPart, PrefixDecides, Allows, AcceptedExactly, AcceptedCardsExactly, RefusedAt, RefusedAtExactly}
+use Rattle.operations.specs.Demands.{RefusedAtCardsExactly, PrintedEnd}
+use Rattle.operations.specs.Demands.{ReadWritten, InputsReadWritten, WrittenRead, InputsWrittenRead, TicksExactlyParts, TimingsAreRuns}
+use Rattle.operations.specs.Demands.{OriginsAreRestarts, TimetableByMemory, RoundByMemory, TimetableExactly, TokensFirst, UntimableExactlyAt}
+use Rattle.operations.specs.Demands.{UntimableWhenNone, TimetableEarliest, RoundExactly, RoundWhole}
+use Rattle.operations.proofs.Answers.{earliest-within, once-answer, once-answered, work-refused, work-answered, schedule-answer, untimable-told}
+use Rattle.operations.proofs.Answers.{no-answer, whole-tick-run}
+use Rattle.operations.proofs.Places.{cards-placed, timetable-placed}
+use Rattle.operations.proofs.Same.{run-checks-same, order-checks-same, work-same, timetable-same}
+use Rattle.operations.proofs.Ends.{end-matches}
 
--- ---- (a) a timing in whole ticks exists exactly when one in parts does: any order, those that the tokens forbid included
+-- ======== demand 1
+-- the work on a run that passed its check, or that was read, is that of the run as it is read back
+pub run-as-cards : RunAsCards
+run-as-cards what net r = rw (run-cards-told net r) (go (runChecked net r) refl)
+  where
+    go : (c : Checked) → runChecked net r ≡ c → onceChecked c (workOf what net r)
+        ≡ onceRead {A = Net × Run} (foundIf c (netCard .clean net, runCard (net .transitions) .clean r) (length (inputOf runCard net r)))
+        (λ v. workOf what (v .0) (v .1))
+    go Passed p =
+        let (places, transitions, count) = run-counts net r p in
+        sym (work-same (net-same net places transitions) (run-same (net .transitions) r count) what)
+    go (checked.Refused e) p = refl
+
+pub order-as-cards : OrderAsCards
+order-as-cards net o = rw (order-cards-told net o) (go (orderChecked net o) refl)
+  where
+    go : (c : Checked) → orderChecked net o ≡ c → onceChecked c (timetableOf net o)
+        ≡ onceRead {A = Net × Order} (foundIf c (netCard .clean net, orderCard (net .transitions) .clean o) (length (inputOf orderCard net o)))
+        (λ v. timetableOf (v .0) (v .1))
+    go Passed p =
+        let (places, transitions, count) = order-counts net o p in
+        sym (timetable-same (net-same net places transitions) (order-same (net .transitions) o count))
+    go (checked.Refused e) p = refl
+
+pub cards-first : CardsFirst
+cards-first = (λ what s r e. rw e refl, λ s r e. rw e refl)
+
+-- no operation finds 9 before it looks at the output: every refusal of its own has a place from 1 on
+run-own : (what : OnRun) (net : Net) (r : Run) → valuesOf what net r ≡ refusal OutputTooShort → ⊥
+run-own what net r e = omega (arith, cards-placed what _ OutputTooShort (sym (run-as-cards what net r) ∙ e) .0)
+
+order-own : (net : Net) (o : Order) → timetableValues net o ≡ refusal OutputTooShort → ⊥
+order-own net o e = omega (arith, timetable-placed _ OutputTooShort (sym (order-as-cards net o) ∙ e) .0)
+
+own : (op : Operation) → outcomeOf op ≡ refusal OutputTooShort → ⊥
+own (of-run what net r) e = run-own what net r e
+own (of-order net o) e = order-own net o e
+own (of-run-cards what s) e = omega (arith, cards-placed what s OutputTooShort e .0)
+own (of-order-cards s) e = omega (arith, timetable-placed s OutputTooShort e .0)
+own (write-net net) e =
+    let t = netCard .text (writableNet net) in
+    let p = checked-refused (netCard .check net 1) (netCard .text net) e in
+    let read = net-told .told net t [] 0 1 (sym (append-nil t)) ∙ ap (λ (c : Checked). foundIf c (netCard .clean net) (0 + length t)) p in
+    omega (arith, net-placed .named OutputTooShort t 0 1 read .from)
+own (write-run net r) e =
+    run-own replaying net r (ap (λ (c : Checked). onceChecked c (workOf replaying net r)) (checked-refused (runChecked net r) _ e))
+own (write-order net o) e = order-own net o (ap (λ (c : Checked). onceChecked c (timetableOf net o)) (checked-refused (orderChecked net o) _ e))
+
+pub written-exactly : (op : Operation) → WrittenExactly op
+written-exactly op = reply-laws.written-exactly (outcomeOf op)
+
+pub bytes-settled : (op : Operation) → BytesSettled op
+bytes-settled op = reply-laws.bytes-settled (outcomeOf op)
+
+pub refused-exactly : (op : Operation) → RefusedExactly op
+refused-exactly op out r other = reply-laws.refused-exactly (outcomeOf op) r other out
+
+pub too-short-exactly : (op : Operation) → TooShortExactly op
+too-short-exactly op = reply-laws.too-short-exactly (outcomeOf op) (own op)
+
+pub nothing-altered : (op : Operation) → NothingAltered op
+nothing-altered op = reply-laws.nothing-altered (outcomeOf op)
+
+pub slots-no-part : SlotsNoPart
+slots-no-part = (
+  λ what a b r q s t.
+      ap (λ (c : Checked). onceChecked c (workOf what a r)) (run-checks-same s t) ∙ ap (onceChecked (runChecked b q)) (work-same s t what),
+  λ a b o q s t.
+      ap (λ (c : Checked). onceChecked c (timetableOf a o)) (order-checks-same s t) ∙ ap (onceChecked (orderChecked b q)) (timetable-same s t),
+)
+
+pub prefix-decides : PrefixDecides
+prefix-decides = (
+  λ what s k h. ap (λ f. onceRead f (λ v. workOf what (v .0) (v .1))) (run-cards-prefix s k h),
+  λ s k h. ap (λ f. onceRead f (λ v. timetableOf (v .0) (v .1))) (order-cards-prefix s k h),
+)
+
+-- ======== demand 2
+module _ (net : Net) (r : Run) where
+  allowed-exactly : (replay net (ruleOf (arcsOf net) (r .memory)) r .checked ≡ Passed) ↔ Allows net r
+  allowed-exactly = accept.accepted-exactly net (ruleOf (arcsOf net) (r .memory)) r (rule-restarting net (r .memory))
+
+  work-exactly : (what : OnRun) → Answered (workOf what net r) ↔ Allows net r
+  work-exactly what =
+      let done = work-answered net r what in
+      (λ a. allowed-exactly .0 (done .0 a), λ h. done .1 (allowed-exactly .1 h))
+
+pub accepted-exactly : AcceptedExactly
+accepted-exactly what net r =
+    let once = once-answered (runChecked net r) (workOf what net r) in
+    let work = work-exactly net r what in
+    (λ a. let h = once .0 a in (h .0, work .0 (h .1)), λ h. once .1 (h .0, work .1 (h .1)))
+
+module _ (net : Net) (r : Run) (S : Timed) (i : Initial net S) (e : Refusal) where
+  work-refused-at : (what : OnRun) → (workOf what net r ≡ refusal e) ↔ RefusedAt net r S e
+  work-refused-at what =
+      let why = work-refused net r what e in
+      let first = accept.refused-exactly net (ruleOf (arcsOf net) (r .memory)) r (rule-restarting net (r .memory)) S i e in
+      (λ q. first .0 (why .0 q), λ x. why .1 (first .1 x))
+
+pub refused-at-exactly : RefusedAtExactly
+refused-at-exactly what net r S p i e = rw p (work-refused-at net r S i e what)
+
+pub refused-at-cards-exactly : RefusedAtCardsExactly
+refused-at-cards-exactly what s net r next S c i e = rw c (work-refused-at net r S i e what)
+
+end-told : (net : Net) (r : Run) (end : Timed) → Allowed net (ruleOf (arcsOf net) (r .memory)) (r .denominator) (firingsOf r) (r .rest) end
+    → replayOf net r ≡ answer (endText net end)
+end-told net r end a =
+    let rule = ruleOf (arcsOf net) (r .memory) in
+    let st = replay net rule r .state in
+    ap (λ (c : Checked). ended net c st) (allowed-exactly net r .1 (end, a))
+    ∙ ap answer (sym (end-matches net end st (same-end net rule r (rule-restarting net (r .memory)) end a)))
+
+pub printed-end : PrintedEnd
+printed-end net r end a = (λ p. rw p (end-told net r end a), λ s next e. rw e (end-told net r end a))
+
+pub accepted-cards-exactly : AcceptedCardsExactly
+accepted-cards-exactly what s = (
+  there (runCards s) refl,
+  λ h. let (net, r, e, allows) = h in rw e (work-exactly net r what .1 allows),
+)
+  where
+    there : (f : Found (Net × Run)) → runCards s ≡ f → Answered (onceRead f (λ v. workOf what (v .0) (v .1)))
+        → (net : Net) × (r : Run) × (runCards s ≡ found (net, r) (length s)) × Allows net r
+    there (found v next) e a =
+        (v .0, v .1, e ∙ ap (found v) (run-input-again s e .1), work-exactly (v .0) (v .1) what .0 a)
+    there (refused r) e a = absurd (no-answer (a .1))
+
+pub read-written : ReadWritten
+read-written = (
+  λ s net next e.
+      let w = net-inverse .written-read net s 0 next 1 e in
+      ap (λ (c : Checked). writtenIf c (netCard .text net)) (w .passed) ∙ ap answer (front (w .end ∙ zero-add _) (w .bytes)),
+  λ s net r next e. run-written-again net s e,
+  λ s net o next e. order-written-again net s e,
+)
+  where
+    front : {text s : List ℕ} {next : ℕ} → next ≡ length text → s ≡ text ++ drop next s → text ≡ take next s
+    front {text} {s} {next} n e = sym (ap (take next) e ∙ rw n (take-append-seam text (drop (length text) s)))
+
+pub inputs-read-written : InputsReadWritten
+inputs-read-written = (λ s net r next e. run-input-again s e .0, λ s net o next e. order-input-again s e .0)
+
+pub written-read : WrittenRead
+written-read = (
+  λ net bytes rest e.
+      let (p, same) = written-answer (netCard .check net 1) (netCard .text net) e in
+      let w = net-comes-back net rest p in
+      (w .back, subst (λ (l : List ℕ). netCard .read (l ++ rest) 0 1 ≡ found (w .back) (length l)) same (w .read), w .same),
+  run-comes-back,
+  order-comes-back,
+)
+
+pub inputs-written-read : InputsWrittenRead
+inputs-written-read = (
+  λ net r p.
+      let (places, transitions, count) = run-counts net r p in
+      (_, _, run-input-back net r p, net-same net places transitions, run-same (net .transitions) r count),
+  λ net o p.
+      let (places, transitions, count) = order-counts net o p in
+      (_, _, order-input-back net o p, net-same net places transitions, order-same (net .transitions) o count),
+)
+
+-- ======== demand 3
 pub ticks-exactly-parts : TicksExactlyParts
 ticks-exactly-parts = ticks-exactly
 
--- ---- over values and over cards the operations come to what they are under the rule of the memory named
-pub timetable-values : (net : Net) (o : Order) → orderChecked net o ≡ Passed → timetableValues net o ≡ timetableBy net (ruleOf (arcsOf net) (o .memory)) o
-timetable-values net o p = rw p refl
+pub timings-are-runs : TimingsAreRuns
+timings-are-runs = rounded.timings-are-runs
 
-pub timetable-cards : (s : List ℕ) (net : Net) (o : Order) (end : ℕ) → orderCards s ≡ found (net, o) end
-    → (orderChecked net o ≡ Passed) × (timetableCards s ≡ timetableBy net (ruleOf (arcsOf net) (o .memory)) o)
-timetable-cards s net o end e = (order-cards-passed s e, rw e refl)
+pub origins-are-restarts : OriginsAreRestarts
+origins-are-restarts = origins.origins-are-restarts
 
-pub round-values : (net : Net) (r : Run) → runChecked net r ≡ Passed → roundValues net r ≡ roundBy net (ruleOf (arcsOf net) (r .memory)) r
-round-values net r p = rw p refl
+pub timetable-by-memory : TimetableByMemory
+timetable-by-memory = (λ net o p. rw p refl, λ s net o next e. (order-cards-passed s e, rw e refl))
 
-pub round-cards : (s : List ℕ) (net : Net) (r : Run) (end : ℕ) → runCards s ≡ found (net, r) end
-    → (runChecked net r ≡ Passed) × (roundCards s ≡ roundBy net (ruleOf (arcsOf net) (r .memory)) r)
-round-cards s net r end e = (run-cards-passed s e, rw e refl)
+pub round-by-memory : RoundByMemory
+round-by-memory = (λ net r p. rw p refl, λ s net r next e. (run-cards-passed s e, rw e refl))
 
-module _ (net : Net) (restarts : Restart) (o : Order) (p : orderChecked net o ≡ Passed) where
+module _ (net : Net) (restarts : Restart) (o : Order) where
   abbrev scheduled : Scheduled
   scheduled = schedule net restarts (firesOf o)
 
-  -- ---- (b) a timetable is answered exactly when the order has a timing at some denominator
   pub timetable-exactly : TimetableExactly net restarts o
   timetable-exactly = (
     λ a. let s = schedule-answer net o scheduled (a .0) (a .1) in (1, omega arith, (s .0, scheduled-timing net restarts (firesOf o) (s .0) (s .1))),
     λ t. let s = scheduled-exactly net restarts (firesOf o) (t .2 .1 .allowed) .1 t in (_, ap (scheduleText net o) (s .1)),
   )
 
-  -- 5 and 6 come first, whatever the output
-  pub tokens-refused : TokensFirst net restarts o
-  tokens-refused r e out = rw (schedule-refused net restarts (firesOf o) r e) refl
+  pub tokens-first : TokensFirst net restarts o
+  tokens-first r e out = rw (schedule-refused net restarts (firesOf o) r e) refl
 
-  -- the order is refused as untimable at k, whatever the output, exactly when the tokens allow it and k is the first firing up to which there is no timing
   pub untimable-exactly-at : UntimableExactlyAt net restarts o
   untimable-exactly-at k out =
       let told = untimable-told net o scheduled k out in
       let why = untimable-allowed net restarts (firesOf o) k in
       (λ e. why .0 (told .0 e), λ f. told .1 (why .1 f))
 
-  -- it is refused as untimable exactly when it has no timing, of those orders that the tokens allow
   pub untimable-when-none : UntimableWhenNone net restarts o
-  untimable-when-none e =
+  untimable-when-none e out =
       let none = untimable-none net restarts (firesOf o) e in (
-        λ u. none .0 (u .0, untimable-told net o scheduled (u .0) [] .0 (u .1 [])),
-        λ h. let u = none .1 h in (u .0, λ out. untimable-told net o scheduled (u .0) out .1 (u .1)),
+        λ u. none .0 (u .0, untimable-told net o scheduled (u .0) out .0 (u .1)),
+        λ h. let u = none .1 h in (u .0, untimable-told net o scheduled (u .0) out .1 (u .1)),
       )
 
-  -- ---- (c) the timetable is the card of a whole-tick run, and the earliest at every denominator
   pub timetable-earliest : TimetableEarliest net restarts o
   unfolding timetableRun
-  timetable-earliest bytes e =
+  timetable-earliest p bytes e =
       let order = firesOf o in
       let (waits, on-time, text) = schedule-answer net o scheduled bytes e in
       let t = scheduled-timing net restarts order waits on-time in
@@ -113,17 +294,15 @@ module _ (net : Net) (restarts : Restart) (o : Order) (p : orderChecked net o �
         },
       )
 
-module _ (net : Net) (restarts : Restart) (r : Run) (p : runChecked net r ≡ Passed) where
-  -- ---- (d) the rounding is answered exactly when the run is accepted
+module _ (net : Net) (restarts : Restart) (r : Run) where
   pub round-exactly : RoundExactly net restarts r
   round-exactly =
       let once = once-answered (replay net restarts r .checked) (answer (runCard (net .transitions) .text (roundedRun r))) in
       (λ a. once .0 a .0, λ e. once .1 (e, (_, refl)))
 
-  -- and the answer is the card of a whole-tick run of the same order, with each instant and the end rounded down and the same marking after every firing
   pub round-whole : RoundWhole net restarts r
   unfolding roundedRun
-  round-whole bytes e =
+  round-whole p bytes e =
       let (accepted, text) = once-answer (replay net restarts r .checked) (answer (runCard (net .transitions) .text (roundedRun r))) bytes .0 e in
       let q = roundedRun r in
       let passed = also-second (netCard .check net 1) (runCard (net .transitions) .check r 1) p in
@@ -137,20 +316,9 @@ module _ (net : Net) (restarts : Restart) (r : Run) (p : runChecked net r ≡ Pa
           instant = rounded-instant r d;
           end = rounded-end r d;
           markings = λ i. sym (same-markings r d net restarts accepted i);
+          instants-near = rounded-instants-near r d;
+          end-near = rounded-end-near r d;
+          clocks-near = rounded-clocks r d net restarts accepted;
+          end-clocks-near = rounded-end-clocks r d net restarts accepted;
         },
       )
-
--- ---- output allowing: an answer of n bytes is written to every output that holds them, and nothing else is ever written
-pub written-exactly : (o : Outcome) → Answered o ↔ ((n : ℕ) × ((out : List ℕ) → n ≤ length out → replyTo o out ≡ Written n))
-written-exactly = reply-laws.written-exactly
-
--- ---- demand 2 through the operations: a replay is answered exactly when its run passes the check and the published semantics allows it
-pub replay-exactly : ReplayExactly
-replay-exactly net r =
-    let rule = ruleOf (arcsOf net) (r .memory) in
-    let once = once-answered (runChecked net r) (replayOf net r) in
-    let ended = end-answered net (replay net rule r .checked) (replay net rule r .state) in
-    let allowed = accepted-exactly net rule r (rule-restarting net (r .memory)) in (
-      λ a. let h = once .0 a in (h .0, allowed .0 (ended .0 (h .1))),
-      λ h. once .1 (h .0, ended .1 (allowed .1 (h .1))),
-    )

@@ -23,8 +23,9 @@ use Rattle.reply.proofs.Laws.{written-answer}
 use Rattle.run.specs.declared.Run.{Run}
 use Rattle.run.specs.Run.{runCard, firingsOf, orderOf}
 use Rattle.firing.specs.declared.State.{State}
-use Rattle.firing.specs.Semantics.{arcsOf, Restart, enabled, ruleOf}
-use Rattle.firing.specs.Replay.{clockOf, replay}
+use Rattle.firing.specs.Semantics.{arcsOf, Restart, Timed, enabled, ruleOf}
+use Rattle.firing.specs.Replay.{replay}
+use Rattle.firing.specs.Claims.{view}
 use Rattle.firing.proofs.Clocks.{few-places, few-transitions}
 use Rattle.causal.specs.Print.{processText}
 use Rattle.cards.specs.Cards.{runChecked, runCards, orderCards}
@@ -34,11 +35,12 @@ use Rattle.operations.specs.Replay.{clockText, clocksText, endText, ende
 use Rattle.operations.specs.Round.{roundCards}
 use Rattle.operations.specs.Process.{processCards}
 use Rattle.operations.specs.Timetable.{timetableCards}
+use Rattle.operations.specs.Outcomes.{replaying, rounding, processing}
 use Rattle.operations.specs.Claims.{WholeTickRun}
 use Rattle.operations.proofs.Answers.{once-answer}
 use Rattle.operations.proofs.Causality.{accepted-tokens, process-fits}
 use Rattle.operations.proofs.Demands.{round-whole, timetable-earliest}
-use Rattle.operations.proofs.Places.{replay-placed, round-placed, process-placed, timetable-placed}
+use Rattle.operations.proofs.Places.{cards-placed, timetable-placed}
 
 -- an operation on cards that answers has read them
 once-read : {A : Type 0} {P : Type 0} {bytes : List ℕ} (f : Found A) (o : A → Outcome) → ((a : A) (next : ℕ) → f ≡ found a next → o a ≡ answer bytes → P)
@@ -47,38 +49,38 @@ once-read (found a next) o then e = then a next refl e
 once-read (refused r) o then e = let z : _≡_ {A = ℕ} 0 1 = cc in absurd (omega arith)
 
 -- ---- the end of a replay: no number takes more than 21 bytes with its separator
-module _ (net : Net) (st : State) where
+module _ (net : Net) (S : Timed) where
   value-short : (on : Bool) (clock : ℕ) → length (cond on (field clock true) (bytes "off\n")) ≤ 21
   value-short true clock = field-short clock true
   value-short false clock = omega arith
 
-  clocks-short : (n : ℕ) → length (clocksText net st n) ≤ 27 * n
+  clocks-short : (n : ℕ) → length (clocksText net S n) ≤ 27 * n
   unfolding clocksText
   clocks-short zero = omega arith
   clocks-short (suc n) =
-      omega (arith, length-append (clocksText net st n) (clockText net st n), value-short (enabled (arcsOf net) (st .marking) n) (clockOf st n), clocks-short n)
+      omega (arith, length-append (clocksText net S n) (clockText net S n), value-short (enabled (arcsOf net) (S .marking) n) (S .clock n), clocks-short n)
 
   -- a buffer of 1,280 bytes holds it
-  pub end-fits : length (endText net st) ≤ 1280
+  pub end-fits : length (endText net S) ≤ 1280
   end-fits =
       let places = arcsOf net .places in
-      let tokens = firstOf places 0 (st .marking) in
-      let clocks = clocksText net st (arcsOf net .transitions) in
+      let tokens = firstOf places 0 (S .marking) in
+      let clocks = clocksText net S (arcsOf net .transitions) in
       omega (
         arith,
         length-append (bytes "end=" ++ itemsText tokens) clocks,
         length-items tokens,
-        length-first places 0 (st .marking),
+        length-first places 0 (S .marking),
         clocks-short (arcsOf net .transitions),
         few-places net,
         few-transitions net,
       )
 
-  ended-short : (c : Checked) (text : List ℕ) → ended net c st ≡ answer text → length text ≤ 1280
-  ended-short checked.Passed text e =
-      let same : endText net st ≡ text = cc in
-      rw (← same) end-fits
-  ended-short (checked.Refused r) text e = let z : _≡_ {A = ℕ} 0 1 = cc in absurd (omega arith)
+ended-short : (net : Net) (st : State) (c : Checked) (text : List ℕ) → ended net c st ≡ answer text → length text ≤ 1280
+ended-short net st checked.Passed text e =
+    let same : endText net (view st) ≡ text = cc in
+    rw (← same) (end-fits net (view st))
+ended-short net st (checked.Refused r) text e = let z : _≡_ {A = ℕ} 0 1 = cc in absurd (omega arith)
 
 pub replay-short : (s text : List ℕ) → replayCards s ≡ answer text → length text ≤ 1280
 replay-short s text =
@@ -118,13 +120,13 @@ process-short s bytes =
 -- ---- what is told
 module _ (s : List ℕ) where
   pub replay-bounds : Bounds (replayCards s) 1280 147
-  replay-bounds = record { short = replay-short s; placed = replay-placed s }
+  replay-bounds = record { short = replay-short s; placed = λ r e. cards-placed replaying s r e .1 }
 
   pub round-bounds : Bounds (roundCards s) 2048 147
-  round-bounds = record { short = round-short s; placed = round-placed s }
+  round-bounds = record { short = round-short s; placed = λ r e. cards-placed rounding s r e .1 }
 
   pub timetable-bounds : Bounds (timetableCards s) 2048 147
-  timetable-bounds = record { short = timetable-short s; placed = timetable-placed s }
+  timetable-bounds = record { short = timetable-short s; placed = λ r e. timetable-placed s r e .1 }
 
   pub process-bounds : Bounds (processCards s) 22001 147
-  process-bounds = record { short = process-short s; placed = process-placed s }
+  process-bounds = record { short = process-short s; placed = λ r e. cards-placed processing s r e .1 }

@@ -3,3 +3,5 @@ pub mod Causality
 pub mod Demands
 pub mod Lengths
 pub mod Places
+pub mod Same
+pub mod Ends

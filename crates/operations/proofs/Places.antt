@@ -1,34 +1,30 @@
 -- Every refusal of an operation has a small place: what was read has at most 146 lines and 64 firings.
-use Prim.Native.Nat.{ℕ, _≤_}
+use Prim.Native.Nat.{ℕ, _≤_, _<_}
 use native.Mathlib.Omega.{arith}
 use mathlib.Core.Path.{_≡_, refl}
 use mathlib.Core.List.{List}
 use Rattle.reply.specs.declared.Refusal.{Refusal}
-use Rattle.reply.specs.declared.Checked.{Checked}
-use Rattle.reply.specs.declared.Checked.the-variants as checked
+use Rattle.reply.specs.declared.Checked.the-variants.{Passed}
 use Rattle.reply.specs.Refusal.{positionOf}
-use Rattle.reply.specs.Respond.{Outcome, answer, refusal}
+use Rattle.reply.specs.Respond.{Outcome, refusal}
 use Rattle.form.specs.Form.{Found, found, refused}
+use Rattle.form.specs.Inverse.{Among}
 use Rattle.net.specs.declared.Net.{Net}
 use Rattle.run.specs.declared.Run.{Run}
 use Rattle.run.specs.declared.Order.{Order}
 use Rattle.run.specs.Run.{firesOf}
-use Rattle.firing.specs.declared.State.{State}
 use Rattle.firing.specs.Semantics.{arcsOf, Restart, ruleOf}
-use Rattle.firing.specs.Replay.{replay}
 use Rattle.firing.proofs.Places as firing
 use Rattle.timing.specs.Schedule.{schedule}
 use Rattle.timing.proofs.Places.{schedule-placed}
 use Rattle.timing.proofs.Rounded.{fires-few}
-use Rattle.cards.specs.Cards.{runChecked, orderChecked, runCards, orderCards}
-use Rattle.cards.proofs.Cards.{run-counts, run-cards-passed, order-cards-passed}
+use Rattle.cards.specs.Cards.{runChecked, runCards, orderCards}
+use Rattle.cards.proofs.Cards.{run-counts, run-cards-passed}
 use Rattle.cards.proofs.Places.{run-cards-placed, order-cards-placed}
-use Rattle.operations.specs.Operation.{onceChecked, onceRead}
-use Rattle.operations.specs.Replay.{ended, replayCards}
-use Rattle.operations.specs.Round.{roundCards}
-use Rattle.operations.specs.Process.{processCards}
+use Rattle.operations.specs.Operation.{onceRead}
 use Rattle.operations.specs.Timetable.{timetableBy, timetableCards}
-use Rattle.operations.proofs.Answers.{schedule-refusal}
+use Rattle.operations.specs.Outcomes.{OnRun, workOf, cardsOf}
+use Rattle.operations.proofs.Answers.{work-refused, schedule-refusal}
 
 -- an operation on cards refuses what it cannot read, and otherwise what its own work refuses
 once-refused : {A : Type 0} {P : Type 0} {r : Refusal} (f : Found A) (o : A → Outcome) → (f ≡ refused r → P)
@@ -36,44 +32,29 @@ once-refused : {A : Type 0} {P : Type 0} {r : Refusal} (f : Found A) (o : A → 
 once-refused (found a next) o first then e = then a next refl e
 once-refused (refused q) o first then e = first (cc)
 
--- the work of a replay, of a rounding and of a process refuses what the replay refuses
-ended-refused : (net : Net) (c : Checked) (st : State) (r : Refusal) → ended net c st ≡ refusal r → c ≡ checked.Refused r
-ended-refused net checked.Passed st r e = let z : _≡_ {A = ℕ} 0 1 = cc in absurd (omega arith)
-ended-refused net (checked.Refused q) st r e = cc
+-- a place, from 1 on
+abbrev pub Place : Refusal → Type 0
+Place r = (0 < positionOf r) × (positionOf r ≤ 147)
 
-rounded-refused : (c : Checked) (bytes : List ℕ) (r : Refusal) → onceChecked c (answer bytes) ≡ refusal r → c ≡ checked.Refused r
-rounded-refused checked.Passed bytes r e = let z : _≡_ {A = ℕ} 0 1 = cc in absurd (omega arith)
-rounded-refused (checked.Refused q) bytes r e = cc
+pub work-placed : (what : OnRun) (net : Net) (run : Run) (r : Refusal) → runChecked net run ≡ Passed → workOf what net run ≡ refusal r → Place r
+work-placed what net run r p e =
+    let h = firing.replay-place net (ruleOf (arcsOf net) (run .memory)) run r (work-refused net run what r .0 e) in
+    (h .0, omega (arith, run-counts net run p .2))
 
-run-placed : (net : Net) (restarts : Restart) (run : Run) (r : Refusal) → runChecked net run ≡ checked.Passed
-    → replay net restarts run .checked ≡ checked.Refused r
-    → positionOf r ≤ 147
-run-placed net restarts run r p e = omega (arith, firing.replay-place net restarts run r e .1, run-counts net run p .2)
+pub schedule-refused : (net : Net) (restarts : Restart) (o : Order) (r : Refusal) → timetableBy net restarts o ≡ refusal r → Place r
+schedule-refused net restarts o r e =
+    let h = schedule-placed net restarts (firesOf o) r (schedule-refusal net o (schedule net restarts (firesOf o)) r .0 e) in
+    (h .0, omega (arith, fires-few o))
 
-order-placed : (net : Net) (restarts : Restart) (o : Order) (r : Refusal) → orderChecked net o ≡ checked.Passed → timetableBy net restarts o ≡ refusal r
-    → positionOf r ≤ 147
-order-placed net restarts o r p e =
-    let why = schedule-refusal net o (schedule net restarts (firesOf o)) r .0 e in
-    omega (arith, schedule-placed net restarts (firesOf o) r why, fires-few o)
+-- a refusal of cards names one of their lines
+line-place : {r : Refusal} → Among 1 146 r → Place r
+line-place h = (h .from, omega (arith, h .below))
 
-pub replay-placed : (s : List ℕ) (r : Refusal) → replayCards s ≡ refusal r → positionOf r ≤ 147
-replay-placed s r =
-    once-refused (runCards s) _ (λ e. omega (arith, run-cards-placed s e .below))
-    (λ v next e q.
-    let rule = ruleOf (arcsOf (v .0)) (v .1 .memory) in
-    run-placed (v .0) rule (v .1) r (run-cards-passed s e) (ended-refused (v .0) _ (replay (v .0) rule (v .1) .state) r q))
+pub cards-placed : (what : OnRun) (s : List ℕ) (r : Refusal) → cardsOf what s ≡ refusal r → Place r
+cards-placed what s r =
+    once-refused (runCards s) _ (λ e. line-place (run-cards-placed s e)) (λ v next e q. work-placed what (v .0) (v .1) r (run-cards-passed s e) q)
 
-pub round-placed : (s : List ℕ) (r : Refusal) → roundCards s ≡ refusal r → positionOf r ≤ 147
-round-placed s r =
-    once-refused (runCards s) _ (λ e. omega (arith, run-cards-placed s e .below))
-    (λ v next e q. run-placed (v .0) (ruleOf (arcsOf (v .0)) (v .1 .memory)) (v .1) r (run-cards-passed s e) (rounded-refused _ _ r q))
-
-pub process-placed : (s : List ℕ) (r : Refusal) → processCards s ≡ refusal r → positionOf r ≤ 147
-process-placed s r =
-    once-refused (runCards s) _ (λ e. omega (arith, run-cards-placed s e .below))
-    (λ v next e q. run-placed (v .0) (ruleOf (arcsOf (v .0)) (v .1 .memory)) (v .1) r (run-cards-passed s e) (rounded-refused _ _ r q))
-
-pub timetable-placed : (s : List ℕ) (r : Refusal) → timetableCards s ≡ refusal r → positionOf r ≤ 147
+pub timetable-placed : (s : List ℕ) (r : Refusal) → timetableCards s ≡ refusal r → Place r
 timetable-placed s r =
-    once-refused (orderCards s) _ (λ e. omega (arith, order-cards-placed s e .below))
-    (λ v next e q. order-placed (v .0) (ruleOf (arcsOf (v .0)) (v .1 .memory)) (v .1) r (order-cards-passed s e) q)
+    once-refused (orderCards s) _ (λ e. line-place (order-cards-placed s e))
+    (λ v next e q. schedule-refused (v .0) (ruleOf (arcsOf (v .0)) (v .1 .memory)) (v .1) r q)

@@ -1,72 +1,218 @@
--- Demand 3 and the first half of demand 2 as statements on the operations; proofs/Demands.antt proves each for every accepted net, every restart rule, and
--- every order and run that passes its check, from the start marking with every clock at 0.
-use Prim.Native.Nat.{ℕ, _<_}
+-- The three demands as statements, each under its sentence and in the customer's order (docs/DEMANDS.md); proofs/Demands.antt proves each of them under the
+-- same name in small letters. The contract of an operation is `Responded` with its outcome, for the reply and the output at exit.
+use Prim.Native.Nat.{ℕ, _+_, _≤_, _<_}
 use mathlib.Core.Path.{_≡_}
 use mathlib.Core.Logic.{_↔_}
-use mathlib.Core.List.{List}
+use mathlib.Core.List.{List, _++_}
+use lib.ListN.{length, getD, take}
 use Rattle.reply.specs.declared.Refusal.{Refusal}
-use Rattle.reply.specs.declared.Refusal.the-variants.{Untimable}
+use Rattle.reply.specs.declared.Refusal.the-variants.{Untimable, OutputTooShort}
 use Rattle.reply.specs.declared.Checked.the-variants as checked
-use Rattle.reply.specs.declared.Reply.the-variants.{Refused}
-use Rattle.reply.specs.Respond.{answer, Answered, replyTo}
+use Rattle.reply.specs.declared.Reply.the-variants.{Written, Refused}
+use Rattle.reply.specs.Respond.{answer, refusal, Answered, replyTo, Responded, Filled}
+use Rattle.form.specs.Form.{found, refused}
 use Rattle.net.specs.declared.Net.{Net}
+use Rattle.net.specs.Net.{netCard, netText}
+use Rattle.net.specs.Same.{SameNet, writableNet}
 use Rattle.run.specs.declared.Run.{Run}
 use Rattle.run.specs.declared.Order.{Order}
-use Rattle.run.specs.Run.{firingsOf, firesOf}
-use Rattle.firing.specs.Semantics.{arcsOf, Restart, Timed, startMarking, ruleOf, Allowed}
+use Rattle.run.specs.declared.Memory.{Memory}
+use Rattle.run.specs.Run.{firingsOf, firesOf, runCard, orderCard}
+use Rattle.run.specs.Same.{SameRun, SameOrder, writableRun, writableOrder}
+use Rattle.firing.specs.Semantics.{arcsOf, Restart, Timed, startMarking, ruleOf, Initial, Allowed}
 use Rattle.firing.specs.Replay.{replay}
 use Rattle.firing.specs.Tokens.{tokens}
-use Rattle.timing.specs.Windows.{Timable}
+use Rattle.firing.specs.Claims.{FirstRefused}
+use Rattle.timing.specs.Windows.{windows, windowsOf, lastRestart, Timing, Timable}
+use Rattle.timing.specs.Rounding.{zipFirings}
 use Rattle.timing.specs.Claims.{FirstUntimable}
-use Rattle.cards.specs.Cards.{runChecked}
-use Rattle.operations.specs.Replay.{replayValues}
-use Rattle.operations.specs.Timetable.{timetableBy}
+use Rattle.cards.specs.Cards.{inputOf, readRun, readOrder, runCards, orderCards, runChecked, orderChecked, runText, orderText}
+use Rattle.operations.specs.Replay.{endText}
+use Rattle.operations.specs.Timetable.{timetableBy, timetableValues, timetableCards}
 use Rattle.operations.specs.Round.{roundBy}
+use Rattle.operations.specs.Outcomes.{OnRun, replaying, rounding, Operation, valuesOf, cardsOf, outcomeOf}
 use Rattle.operations.specs.Claims.{WholeTickRun, EarliestRun, RoundedDown}
 
--- a timing in whole ticks exists exactly when one in parts does: any order, those that the tokens forbid included
+-- the rule of the memory word of a run
+abbrev pub ruleFor : Net → Memory → Restart
+ruleFor net memory = ruleOf (arcsOf net) memory
+
+-- ======== demand 1
+module _ (op : Operation) where
+  -- "answered in full": n bytes are written exactly where there is an answer of n bytes and the output holds them
+  abbrev pub WrittenExactly : Type 0
+  WrittenExactly =
+      (out : List ℕ) (n : ℕ) → (replyTo (outcomeOf op) out ≡ Written n)
+      ↔ ((bytes : List ℕ) × (outcomeOf op ≡ answer bytes) × (n ≡ length bytes) × (n ≤ length out))
+
+  -- "with every written byte settled and the rest of the output untouched"
+  abbrev pub BytesSettled : Type 0
+  BytesSettled =
+      (out after : List ℕ) (n : ℕ) → Responded (outcomeOf op) out (Written n) after
+      → (bytes : List ℕ) × (outcomeOf op ≡ answer bytes) × Filled bytes out after n
+
+  -- "Anything else gets a refusal number and a place", the same whatever the output
+  abbrev pub RefusedExactly : Type 0
+  RefusedExactly = (out : List ℕ) (r : Refusal) → (r ≡ OutputTooShort → ⊥) → (replyTo (outcomeOf op) out ≡ Refused r) ↔ (outcomeOf op ≡ refusal r)
+
+  -- number 9: exactly when there is an answer and it is longer than the output
+  abbrev pub TooShortExactly : Type 0
+  TooShortExactly =
+      (out : List ℕ) → (replyTo (outcomeOf op) out ≡ Refused OutputTooShort) ↔ ((bytes : List ℕ) × (outcomeOf op ≡ answer bytes) × (length out < length bytes))
+
+  -- "with no lent byte altered"
+  abbrev pub NothingAltered : Type 0
+  NothingAltered = (out after : List ℕ) (r : Refusal) → Responded (outcomeOf op) out (Refused r) after → after ≡ out
+
+-- "by the printed order of checks": cards before firings, and of a value the refusal of its card, in which a number too long to write is outside its range
+abbrev pub RunAsCards : Type 0
+RunAsCards = (what : OnRun) (net : Net) (r : Run) → valuesOf what net r ≡ cardsOf what (inputOf runCard (writableNet net) (writableRun r))
+
+abbrev pub OrderAsCards : Type 0
+OrderAsCards = (net : Net) (o : Order) → timetableValues net o ≡ timetableCards (inputOf orderCard (writableNet net) (writableOrder o))
+
+abbrev pub CardsFirst : Type 0
+CardsFirst =
+    ((what : OnRun) (s : List ℕ) (r : Refusal) → runCards s ≡ refused r → cardsOf what s ≡ refusal r)
+    × ((s : List ℕ) (r : Refusal) → orderCards s ≡ refused r → timetableCards s ≡ refusal r)
+
+-- "Slots past its counts are no part of it"
+abbrev pub SlotsNoPart : Type 0
+SlotsNoPart =
+    ((what : OnRun) (a b : Net) (r q : Run) → SameNet a b → SameRun r q → valuesOf what a r ≡ valuesOf what b q)
+    × ((a b : Net) (o q : Order) → SameNet a b → SameOrder o q → timetableValues a o ≡ timetableValues b q)
+
+-- the first 14,003 bytes of an input decide; 13,006 for a timetable
+abbrev pub PrefixDecides : Type 0
+PrefixDecides =
+    ((what : OnRun) (s : List ℕ) (k : ℕ) → 14003 ≤ k → cardsOf what (take k s) ≡ cardsOf what s)
+    × ((s : List ℕ) (k : ℕ) → 13006 ≤ k → timetableCards (take k s) ≡ timetableCards s)
+
+-- ======== demand 2
+-- "a timed run within the card limits is accepted if, and only if, the published weak semantics allows every firing in it"
+abbrev pub Allows : Net → Run → Type 0
+Allows net r = (end : Timed) × Allowed net (ruleFor net (r .memory)) (r .denominator) (firingsOf r) (r .rest) end
+
+abbrev pub AcceptedExactly : Type 0
+AcceptedExactly = (what : OnRun) (net : Net) (r : Run) → Answered (valuesOf what net r) ↔ ((runChecked net r ≡ checked.Passed) × Allows net r)
+
+abbrev pub AcceptedCardsExactly : Type 0
+AcceptedCardsExactly =
+    (what : OnRun) (s : List ℕ) → Answered (cardsOf what s) ↔ ((net : Net) × (r : Run) × (runCards s ≡ found (net, r) (length s)) × Allows net r)
+
+-- and otherwise refused, at the first firing that is not allowed, with 5, 7 or 6, from whatever initial state the semantics starts
+abbrev pub RefusedAt : Net → Run → Timed → Refusal → Type 0
+RefusedAt net r S e = FirstRefused net (ruleFor net (r .memory)) (r .denominator) (firingsOf r) S 0 e
+
+abbrev pub RefusedAtExactly : Type 0
+RefusedAtExactly =
+    (what : OnRun) (net : Net) (r : Run) (S : Timed) → runChecked net r ≡ checked.Passed → Initial net S → (e : Refusal)
+    → (valuesOf what net r ≡ refusal e) ↔ RefusedAt net r S e
+
+abbrev pub RefusedAtCardsExactly : Type 0
+RefusedAtCardsExactly =
+    (what : OnRun) (s : List ℕ) (net : Net) (r : Run) (next : ℕ) (S : Timed) → runCards s ≡ found (net, r) next → Initial net S → (e : Refusal)
+    → (cardsOf what s ≡ refusal e) ↔ RefusedAt net r S e
+
+-- the printed end is the end of the published semantics, over values and over cards
+abbrev pub PrintedEnd : Type 0
+PrintedEnd =
+    (net : Net) (r : Run) (end : Timed) → Allowed net (ruleFor net (r .memory)) (r .denominator) (firingsOf r) (r .rest) end
+    → (runChecked net r ≡ checked.Passed → valuesOf replaying net r ≡ answer (endText net end))
+    × ((s : List ℕ) (next : ℕ) → runCards s ≡ found (net, r) next → cardsOf replaying s ≡ answer (endText net end))
+
+-- "Reading a card and writing it again gives back its bytes"
+abbrev pub ReadWritten : Type 0
+ReadWritten =
+    ((s : List ℕ) (net : Net) (next : ℕ) → netCard .read s 0 1 ≡ found net next → netText net ≡ answer (take next s))
+    × ((s : List ℕ) (net : Net) (r : Run) (next : ℕ) → readRun net s ≡ found r next → runText net r ≡ answer s)
+    × ((s : List ℕ) (net : Net) (o : Order) (next : ℕ) → readOrder net s ≡ found o next → orderText net o ≡ answer s)
+
+abbrev pub InputsReadWritten : Type 0
+InputsReadWritten =
+    ((s : List ℕ) (net : Net) (r : Run) (next : ℕ) → runCards s ≡ found (net, r) next → inputOf runCard net r ≡ s)
+    × ((s : List ℕ) (net : Net) (o : Order) (next : ℕ) → orderCards s ≡ found (net, o) next → inputOf orderCard net o ≡ s)
+
+-- "and writing a net or run and reading it gives back the same one", whatever stands behind a net card
+abbrev pub WrittenRead : Type 0
+WrittenRead =
+    ((net : Net) (bytes rest : List ℕ) → netText net ≡ answer bytes
+    → (back : Net) × (netCard .read (bytes ++ rest) 0 1 ≡ found back (length bytes)) × SameNet back net)
+    × ((net : Net) (r : Run) (bytes : List ℕ) → runText net r ≡ answer bytes → (back : Run) × (readRun net bytes ≡ found back (length bytes)) × SameRun back r)
+    × ((net : Net) (o : Order) (bytes : List ℕ) → orderText net o ≡ answer bytes
+    → (back : Order) × (readOrder net bytes ≡ found back (length bytes)) × SameOrder back o)
+
+abbrev pub InputsWrittenRead : Type 0
+InputsWrittenRead =
+    ((net : Net) (r : Run) → runChecked net r ≡ checked.Passed
+    → (n : Net) × (q : Run) × (runCards (inputOf runCard net r) ≡ found (n, q) (length (inputOf runCard net r))) × SameNet n net × SameRun q r)
+    × ((net : Net) (o : Order) → orderChecked net o ≡ checked.Passed
+    → (n : Net) × (q : Order) × (orderCards (inputOf orderCard net o) ≡ found (n, q) (length (inputOf orderCard net o))) × SameNet n net × SameOrder q o)
+
+-- ======== demand 3, for any restart rule; each memory word has one (`ruleFor`)
+-- "a timing in whole ticks exists exactly when one in parts of a tick at that denominator does": any order, those that the tokens forbid included
 abbrev pub TicksExactlyParts : Type 0
 TicksExactlyParts = (net : Net) (restarts : Restart) (order : List ℕ) (D : ℕ) → 0 < D → Timable net restarts 1 order ↔ Timable net restarts D order
 
+-- a timing is a run of the published semantics with these waits and no rest
+abbrev pub TimingsAreRuns : Type 0
+TimingsAreRuns =
+    (net : Net) (memory : Memory) (D : ℕ) (order waits : List ℕ) → Timing net (ruleFor net memory) D order waits
+    ↔ ((length waits ≡ length order) × ((end : Timed) × Allowed net (ruleFor net memory) D (zipFirings waits order) 0 end))
+
+-- each window is measured from the last restart of its transition before it
+abbrev pub OriginsAreRestarts : Type 0
+OriginsAreRestarts =
+    (net : Net) (restarts : Restart) (order : List ℕ) (i : ℕ) → i < length order → getD order i 0 < arcsOf net .transitions
+    → windows (windowsOf net restarts order) i .origin ≡ lastRestart net restarts order i (getD order i 0)
+
+-- the operations under the memory word named, over values and over cards
+abbrev pub TimetableByMemory : Type 0
+TimetableByMemory =
+    ((net : Net) (o : Order) → orderChecked net o ≡ checked.Passed → timetableValues net o ≡ timetableBy net (ruleFor net (o .memory)) o)
+    × ((s : List ℕ) (net : Net) (o : Order) (next : ℕ) → orderCards s ≡ found (net, o) next
+    → (orderChecked net o ≡ checked.Passed) × (timetableCards s ≡ timetableBy net (ruleFor net (o .memory)) o))
+
+abbrev pub RoundByMemory : Type 0
+RoundByMemory =
+    ((net : Net) (r : Run) → runChecked net r ≡ checked.Passed → valuesOf rounding net r ≡ roundBy net (ruleFor net (r .memory)) r)
+    × ((s : List ℕ) (net : Net) (r : Run) (next : ℕ) → runCards s ≡ found (net, r) next
+    → (runChecked net r ≡ checked.Passed) × (cardsOf rounding s ≡ roundBy net (ruleFor net (r .memory)) r))
+
 module _ (net : Net) (restarts : Restart) (o : Order) where
-  -- a timetable is answered exactly when the order has a timing at some denominator
+  -- "a timetable is returned, output allowing, exactly when a timing exists at some denominator"
   abbrev pub TimetableExactly : Type 0
   TimetableExactly = Answered (timetableBy net restarts o) ↔ ((D : ℕ) × (0 < D) × Timable net restarts D (firesOf o))
 
-  -- 5 and 6 come first, whatever the output
+  -- "For an order, 5 and 6 through all firings, then 8": whatever the output
   abbrev pub TokensFirst : Type 0
   TokensFirst =
       (r : Refusal) → tokens net (firesOf o) (startMarking net) 0 ≡ checked.Refused r → (out : List ℕ) → replyTo (timetableBy net restarts o) out ≡ Refused r
 
-  -- the order is refused as untimable at k, whatever the output, exactly when the tokens allow it and k is the first firing up to which there is no timing
+  -- "whatever the output, the order is refused as untimable .. at the first firing up to which there is none"
   abbrev pub UntimableExactlyAt : Type 0
   UntimableExactlyAt =
       (k : ℕ) (out : List ℕ) → (replyTo (timetableBy net restarts o) out ≡ Refused (Untimable k))
       ↔ ((tokens net (firesOf o) (startMarking net) 0 ≡ checked.Passed) × FirstUntimable net restarts (firesOf o) k)
 
-  -- it is refused as untimable exactly when it has no timing, of those orders that the tokens allow
+  -- ".. exactly when none does", of those orders that the tokens allow
   abbrev pub UntimableWhenNone : Type 0
   UntimableWhenNone =
-      tokens net (firesOf o) (startMarking net) 0 ≡ checked.Passed
-      → ((k : ℕ) × ((out : List ℕ) → replyTo (timetableBy net restarts o) out ≡ Refused (Untimable k)))
-      ↔ ((D : ℕ) → 0 < D → Timable net restarts D (firesOf o) → ⊥)
+      tokens net (firesOf o) (startMarking net) 0 ≡ checked.Passed → (out : List ℕ)
+      → ((k : ℕ) × (replyTo (timetableBy net restarts o) out ≡ Refused (Untimable k))) ↔ ((D : ℕ) → 0 < D → Timable net restarts D (firesOf o) → ⊥)
 
-  -- the timetable is the card of a whole-tick run, and the earliest at every denominator
+  -- "The timetable is a whole-tick run of that order, and in every timing at any denominator each firing is at the timetable's instant or later"
   abbrev pub TimetableEarliest : Type 0
   TimetableEarliest =
-      (bytes : List ℕ) → timetableBy net restarts o ≡ answer bytes → (r : Run) × WholeTickRun net restarts bytes r × EarliestRun net restarts o r
+      orderChecked net o ≡ checked.Passed → (bytes : List ℕ) → timetableBy net restarts o ≡ answer bytes → (r : Run) × WholeTickRun net restarts bytes r × EarliestRun net restarts o r
 
 module _ (net : Net) (restarts : Restart) (r : Run) where
-  -- the rounding is answered exactly when the run is accepted
+  -- "every run accepted under 2, whatever its denominator, comes back"
   abbrev pub RoundExactly : Type 0
   RoundExactly = Answered (roundBy net restarts r) ↔ (replay net restarts r .checked ≡ checked.Passed)
 
-  -- and the answer is the card of a whole-tick run of the same order, with each instant and the end rounded down and the same marking after every firing
+  -- "with each firing and the end at its instant rounded down, still a run, with the same order and the same marking after every firing"
   abbrev pub RoundWhole : Type 0
-  RoundWhole = (bytes : List ℕ) → roundBy net restarts r ≡ answer bytes → (q : Run) × WholeTickRun net restarts bytes q × RoundedDown net restarts r q
-
--- demand 2: a replay is answered exactly when its run passes the check and the published semantics allows it
-abbrev pub ReplayExactly : Type 0
-ReplayExactly =
-    (net : Net) (r : Run) → Answered (replayValues net r)
-    ↔ ((runChecked net r ≡ checked.Passed) × ((end : Timed) × Allowed net (ruleOf (arcsOf net) (r .memory)) (r .denominator) (firingsOf r) (r .rest) end))
+  RoundWhole =
+      runChecked net r ≡ checked.Passed → (bytes : List ℕ) → roundBy net restarts r ≡ answer bytes
+      → (q : Run) × WholeTickRun net restarts bytes q × RoundedDown net restarts r q

@@ -1,7 +1,9 @@
 pub mod Claims
 pub mod Demands
 pub mod Operation
+pub mod Outcomes
 pub mod Process
 pub mod Replay
 pub mod Round
+pub mod Starred
 pub mod Timetable

@@ -13,26 +13,27 @@ use Rattle.form.specs.Line.{itemsText}
 use Rattle.net.specs.declared.Net.{Net}
 use Rattle.run.specs.declared.Run.{Run}
 use Rattle.firing.specs.declared.State.{State}
-use Rattle.firing.specs.Semantics.{arcsOf, enabled, ruleOf}
-use Rattle.firing.specs.Replay.{clockOf, replay}
+use Rattle.firing.specs.Semantics.{arcsOf, Timed, enabled, ruleOf}
+use Rattle.firing.specs.Replay.{replay}
+use Rattle.firing.specs.Claims.{view}
 use Rattle.cards.specs.Cards.{runChecked, runCards}
 use Rattle.operations.specs.Operation.{onceChecked, onceRead}
 
--- the line of one clock
-abbrev pub clockText : Net → State → ℕ → List ℕ
-clockText net st u = bytes "clock=" ++ cond (enabled (arcsOf net) (st .marking) u) (field (clockOf st u) true) (bytes "off\n")
+-- the line of one clock in a state of the published semantics
+abbrev pub clockText : Net → Timed → ℕ → List ℕ
+clockText net S u = bytes "clock=" ++ cond (enabled (arcsOf net) (S .marking) u) (field (S .clock u) true) (bytes "off\n")
 
 -- the lines of the first n clocks
-unfoldable pub clocksText : Net → State → ℕ → List ℕ
-clocksText net st zero = []
-clocksText net st (suc u) = clocksText net st u ++ clockText net st u
+unfoldable pub clocksText : Net → Timed → ℕ → List ℕ
+clocksText net S zero = []
+clocksText net S (suc u) = clocksText net S u ++ clockText net S u
 
-abbrev pub endText : Net → State → List ℕ
-endText net st = bytes "end=" ++ itemsText (firstOf (arcsOf net .places) 0 (st .marking)) ++ clocksText net st (arcsOf net .transitions)
+abbrev pub endText : Net → Timed → List ℕ
+endText net S = bytes "end=" ++ itemsText (firstOf (arcsOf net .places) 0 (S .marking)) ++ clocksText net S (arcsOf net .transitions)
 
 -- what a replay comes to: its end, or the first refusal
 abbrev pub ended : Net → Checked → State → Outcome
-ended net Passed st = answer (endText net st)
+ended net Passed st = answer (endText net (view st))
 ended net (Refused r) st = refusal r
 
 abbrev pub replayOf : Net → Run → Outcome

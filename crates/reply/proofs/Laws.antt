@@ -1,11 +1,11 @@
 -- Demand 1 for every operation at once: what a reply says of the output, whatever the operation.
 use Prim.Native.Nat.{ℕ, _<_, _≤_}
 use native.Mathlib.Omega.{arith}
-use mathlib.Core.Path.{_≡_, refl, sym}
+use mathlib.Core.Path.{_≡_, refl, sym, _∙_}
 use mathlib.Core.Bool.{Bool, true, false, cond}
 use mathlib.Core.Logic.{_↔_}
 use mathlib.Core.List.{List, _++_}
-use lib.ListN.{length, drop, replicate, length-replicate}
+use lib.ListN.{length, drop}
 use lib.Seq.{take-append-seam, drop-append-seam}
 use lib.Dec.{ltb}
 use borrow.Author.Tests.{ltb-true, ltb-false, lt-ltb, le-ltb}
@@ -14,10 +14,10 @@ use Rattle.reply.specs.declared.Refusal.the-variants.{OutputTooShort}
 use Rattle.reply.specs.declared.Checked.{Checked}
 use Rattle.reply.specs.declared.Checked.the-variants as checked
 use Rattle.reply.specs.declared.Reply.the-variants.{Written, Refused}
-use Rattle.reply.specs.Respond.{Outcome, answer, refusal, writtenIf, Answered, replyTo, outputOf, Responded, Filled}
+use Rattle.reply.specs.Respond.{Outcome, answer, refusal, writtenIf, replyTo, outputOf, Responded, Filled}
 
--- nothing is altered on a refusal
-pub refused-alters-nothing : (o : Outcome) (out : List ℕ) (r : Refusal) → replyTo o out ≡ Refused r → outputOf o out ≡ out
+-- the output where the reply is a refusal
+refused-alters-nothing : (o : Outcome) (out : List ℕ) (r : Refusal) → replyTo o out ≡ Refused r → outputOf o out ≡ out
 refused-alters-nothing (answer bytes) out r = go (ltb (length out) (length bytes))
   where
     go : (t : Bool) → cond t (Refused OutputTooShort) (Written (length bytes)) ≡ Refused r → cond t out (bytes ++ drop (length bytes) out) ≡ out
@@ -40,20 +40,22 @@ written-fills bytes out n = go (ltb (length out) (length bytes)) refl
           behind = rw (← k) (drop-append-seam bytes (drop (length bytes) out));
         }
 
--- 9 exactly when the answer is longer than the output
-pub too-short : (bytes out : List ℕ) → (replyTo (answer bytes) out ≡ Refused OutputTooShort) ↔ (length out < length bytes)
-too-short bytes out = (go (ltb (length out) (length bytes)) refl, λ h. rw (lt-ltb (length out) (length bytes) h))
+-- 9 exactly when there is an answer and it is longer than the output, of an operation that finds no 9 of its own
+pub too-short-exactly : (o : Outcome) → (o ≡ refusal OutputTooShort → ⊥) → (out : List ℕ)
+    → (replyTo o out ≡ Refused OutputTooShort) ↔ ((bytes : List ℕ) × (o ≡ answer bytes) × (length out < length bytes))
+too-short-exactly o own out = (there o own, λ h. rw (h .1, lt-ltb (length out) (length (h .0)) (h .2)) refl)
   where
-    go : (t : Bool) → ltb (length out) (length bytes) ≡ t → cond t (Refused OutputTooShort) (Written (length bytes)) ≡ Refused OutputTooShort
-        → length out < length bytes
-    go true q e = ltb-true (length out) (length bytes) q
-    go false q e = let z : _≡_ {A = ℕ} 0 1 = cc in absurd (omega arith)
+    there : (o : Outcome) → (o ≡ refusal OutputTooShort → ⊥) → replyTo o out ≡ Refused OutputTooShort
+        → (bytes : List ℕ) × (o ≡ answer bytes) × (length out < length bytes)
+    there (answer bytes) own = go (ltb (length out) (length bytes)) refl
+      where
+        go : (t : Bool) → ltb (length out) (length bytes) ≡ t → cond t (Refused OutputTooShort) (Written (length bytes)) ≡ Refused OutputTooShort
+            → (b : List ℕ) × (answer bytes ≡ answer b) × (length out < length b)
+        go true q e = (bytes, refl, ltb-true (length out) (length bytes) q)
+        go false q e = let z : _≡_ {A = ℕ} 0 1 = cc in absurd (omega arith)
+    there (refusal r) own = λ e. absurd (own (cc))
 
--- any other refusal is told whatever the output
-pub refused-whatever : (r : Refusal) (out : List ℕ) → replyTo (refusal r) out ≡ Refused r
-refused-whatever r out = refl
-
--- and no refusal but 9 is told of an answer
+-- any other refusal is told whatever the output, and of no answer
 pub refused-exactly : (o : Outcome) (r : Refusal) → (r ≡ OutputTooShort → ⊥) → (out : List ℕ) → (replyTo o out ≡ Refused r) ↔ (o ≡ refusal r)
 refused-exactly (answer bytes) r other out = (go (ltb (length out) (length bytes)), λ e. let z : _≡_ {A = ℕ} 0 1 = cc in absurd (omega arith))
   where
@@ -62,21 +64,37 @@ refused-exactly (answer bytes) r other out = (go (ltb (length out) (length bytes
     go false e = let z : _≡_ {A = ℕ} 0 1 = cc in absurd (omega arith)
 refused-exactly (refusal r′) r other out = (λ e. cc, λ e. cc)
 
--- an answer of n bytes is written to every output that holds them, and nothing else is ever written
-pub written-exactly : (o : Outcome) → Answered o ↔ ((n : ℕ) × ((out : List ℕ) → n ≤ length out → replyTo o out ≡ Written n))
-written-exactly o = (λ a. (length (a .0), λ out h. rw (a .1, le-ltb (length out) (length (a .0)) h) refl), back o)
+-- n bytes are written exactly where there is an answer of n bytes and the output holds them
+pub written-exactly : (o : Outcome) (out : List ℕ) (n : ℕ)
+    → (replyTo o out ≡ Written n) ↔ ((bytes : List ℕ) × (o ≡ answer bytes) × (n ≡ length bytes) × (n ≤ length out))
+written-exactly o out n = (there o, λ h. rw (h .1, h .2, le-ltb (length out) (length (h .0)) (rw (h .2) at (h .3))) refl)
   where
-    back : (o : Outcome) → ((n : ℕ) × ((out : List ℕ) → n ≤ length out → replyTo o out ≡ Written n)) → Answered o
-    back (answer bytes) w = (bytes, refl)
-    back (refusal r) w =
-        let e : Refused r ≡ Written (w .0) = w .1 (replicate (w .0) 0) (omega (arith, length-replicate {A = ℕ} (w .0) 0)) in
-        let z : _≡_ {A = ℕ} 0 1 = cc in
-        absurd (omega arith)
+    there : (o : Outcome) → replyTo o out ≡ Written n → (bytes : List ℕ) × (o ≡ answer bytes) × (n ≡ length bytes) × (n ≤ length out)
+    there (answer bytes) e = let w = written-fills bytes out n e in (bytes, refl, w .all, w .fits)
+    there (refusal r) e = let z : _≡_ {A = ℕ} 0 1 = cc in absurd (omega arith)
+
+-- what is written stands at the front, and the bytes behind it stay
+pub bytes-settled : (o : Outcome) (out after : List ℕ) (n : ℕ) → Responded o out (Written n) after
+    → (bytes : List ℕ) × (o ≡ answer bytes) × Filled bytes out after n
+bytes-settled o out after n w = go o (sym (w .reply)) (w .output)
+  where
+    go : (o : Outcome) → replyTo o out ≡ Written n → after ≡ outputOf o out → (bytes : List ℕ) × (o ≡ answer bytes) × Filled bytes out after n
+    go (answer bytes) e h = (bytes, refl, rw h (written-fills bytes out n e))
+    go (refusal r) e h = let z : _≡_ {A = ℕ} 0 1 = cc in absurd (omega arith)
+
+-- nothing is altered by a refusal
+pub nothing-altered : (o : Outcome) (out after : List ℕ) (r : Refusal) → Responded o out (Refused r) after → after ≡ out
+nothing-altered o out after r w = w .output ∙ refused-alters-nothing o out r (sym (w .reply))
 
 -- a text that was written is that of a value that passed
 pub written-answer : (c : Checked) (text : List ℕ) {bytes : List ℕ} → writtenIf c text ≡ answer bytes → (c ≡ checked.Passed) × (text ≡ bytes)
 written-answer checked.Passed text e = (refl, cc)
 written-answer (checked.Refused r) text e = let z : _≡_ {A = ℕ} 0 1 = cc in absurd (omega arith)
+
+-- and a value whose text is refused did not pass
+pub checked-refused : (c : Checked) (text : List ℕ) {r : Refusal} → writtenIf c text ≡ refusal r → c ≡ checked.Refused r
+checked-refused checked.Passed text e = let z : _≡_ {A = ℕ} 0 1 = cc in absurd (omega arith)
+checked-refused (checked.Refused q) text e = cc
 
 -- the reply where the check refuses
 pub check-refused : {c : Checked} (text s : List ℕ) {r : Refusal} → c ≡ checked.Refused r → Responded (writtenIf c text) s (Refused r) s

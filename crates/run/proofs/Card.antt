@@ -24,7 +24,7 @@ use Rattle.run.specs.declared.Memory.{Memory}
 use Rattle.run.specs.declared.Memory.the-variants.{Intermediate, Atomic}
 use Rattle.run.specs.Run.{memory, fire, toFiring, fromFiring, firing, noFiring, steps, toRun, fromRun, runCard, toOrder, fromOrder, orderCard}
 
-memory-back : (m : Memory) (s rest : List ℕ) (at line : ℕ) → memory .check m line ≡ Passed → drop at s ≡ memory .text m ++ rest
+pub memory-back : (m : Memory) (s rest : List ℕ) (at line : ℕ) → memory .check m line ≡ Passed → drop at s ≡ memory .text m ++ rest
     → memory .read s at line ≡ found m (at + length (memory .text m))
 unfolding beginsWith
 memory-back Intermediate s rest at line p e = rw (ap (beginsWith (bytes "intermediate\n")) e ∙ begins-text (bytes "intermediate\n") rest) refl
@@ -82,7 +82,7 @@ memory-format =
 fire-format : (transitions : ℕ) → Format (transitions ≤ 32) (fire transitions) 15 1
 fire-format transitions = listed-format (bytes "fire=") transitions (λ h. omega arith)
 
-firing-format : (transitions : ℕ) → Format (transitions ≤ 32) (firing transitions) 30 2
+pub firing-format : (transitions : ℕ) → Format (transitions ≤ 32) (firing transitions) 30 2
 firing-format transitions =
     held-format toFiring fromFiring (λ v. refl) (pair-format (ranged-format (bytes "wait=") 0 10000000 (lit< tt)) (fire-format transitions))
 

@@ -2,3 +2,4 @@ pub mod Card
 pub mod Ranges
 pub mod Same
 pub mod Text
+pub mod Writable

@@ -1,7 +1,10 @@
 -- Document 01, "The caller": slots past a value's counts are no part of it. Two runs, or two orders, are the same if they agree in all that counts.
 use Prim.Native.Nat.{ℕ, _<_}
 use mathlib.Core.Path.{_≡_}
+use mathlib.Core.List.{map}
 use lib.ListN.{getD}
+use Rattle.form.specs.Line.{writable}
+use Rattle.run.specs.declared.Firing.{Firing}
 use Rattle.run.specs.declared.Run.{Run}
 use Rattle.run.specs.declared.Order.{Order}
 use Rattle.run.specs.Run.{noFiring}
@@ -17,3 +20,20 @@ pub record SameOrder (a b : Order) : Type 0 where
   pub memory : a .memory ≡ b .memory
   pub count : a .count ≡ b .count
   pub fires : (i : ℕ) → i < b .count → getD (a .fires) i 0 ≡ getD (b .fires) i 0
+
+-- "2 for a number too long to write, `fire` again excepted": a run and an order as their cards would hold them
+abbrev pub writableFiring : Firing → Firing
+writableFiring f = record { wait = writable (f .wait); fire = writable (f .fire) }
+
+unfoldable pub writableRun : Run → Run
+writableRun r =
+    record {
+      memory = r .memory;
+      denominator = writable (r .denominator);
+      count = writable (r .count);
+      firings = map writableFiring (r .firings);
+      rest = writable (r .rest);
+    }
+
+unfoldable pub writableOrder : Order → Order
+writableOrder o = record { memory = o .memory; count = writable (o .count); fires = map writable (o .fires) }

@@ -12,11 +12,12 @@ use run::Run;
 ghost use mathlib.Core.Path.{_≡_};
 ghost use mathlib.Core.List.{_++_};
 ghost use Prim.Native.Nat.{_≤_, min};
+ghost use lib.ListN.{replicate};
 ghost use Rattle.laws.specs.Writing.{Puts};
 ghost use Rattle.reply.specs.Respond.{Responded};
 ghost use Rattle.text.specs.Key.{bytes};
 ghost use Rattle.form.specs.Form.{keyed, exactly, times, ended, alone, refused};
-ghost use Rattle.run.specs.Run.{memory, memoryText, fire, firing, noFiring, steps, runCard, orderCard};
+ghost use Rattle.run.specs.Run.{memory, memoryText, fire, firing, noFiring, steps, toRun, runCard, orderCard};
 ghost use Rattle.cards.specs.Cards.{cardBehind, readRun, readOrder, runChecked, orderChecked, runText, orderText};
 ghost use Rattle.run_card.specs.Code.{memoryLine, oneFiring, runRead, orderRead, runFrom, orderFrom};
 
@@ -30,6 +31,13 @@ enum MemoryLine {
 enum OneFiring {
     Value { wait: u32, fire: u32, next: usize },
     Refused(Refusal),
+}
+
+// The values of the first three lines of a run card.
+struct Heading {
+    memory: Memory,
+    denominator: u32,
+    count: usize,
 }
 
 // A run that was read, or why its card is refused.
@@ -112,27 +120,29 @@ fn refused_run(r: Refusal) -> RunRead
     }
 }
 
-// A run from the values of its first three lines and the lines behind them, behind which nothing may follow.
-fn run_from(
-    s: &[u8],
-    at: usize,
-    transitions: usize,
-    memory: Memory,
-    denominator: u32,
-    count: usize,
-) -> RunRead
-    requires { ⌜ count ≤ 64 ⌝ }
-    ensures { λ r. ⌜ r ≡
-        runRead (ended (runCard transitions) (now (s .entry)) (runFrom memory denominator count (steps transitions count .read (now (s .entry)) at 4))) ⌝ }
+// A run of which the heading is read.
+fn unread_run(head: Heading) -> Run
+    ensures { λ r. ⌜ r ≡ toRun (head .memory, (head .denominator, (head .count, (replicate 64 noFiring, 0)))) ⌝ }
 {
     let none = Firing { wait: 0, fire: 0 };
-    let mut run = Run {
+    let memory = head.memory;
+    Run {
         memory,
-        denominator,
-        count,
+        denominator: head.denominator,
+        count: head.count,
         firings: [none; 64],
         rest: 0,
-    };
+    }
+}
+
+// A run from its heading and the lines behind that, behind which nothing may follow.
+fn run_from(s: &[u8], at: usize, transitions: usize, head: Heading) -> RunRead
+    requires { ⌜ head .count ≤ 64 ⌝ }
+    ensures { λ r. ⌜ r ≡ runRead (ended (runCard transitions) (now (s .entry))
+        (runFrom (head .memory) (head .denominator) (head .count) (steps transitions (head .count) .read (now (s .entry)) at 4))) ⌝ }
+{
+    let count = head.count;
+    let mut run = unread_run(head);
     let mut to = at;
     let mut i: usize = 0;
     while i < count {
@@ -184,7 +194,12 @@ pub fn run_card(s: &[u8], transitions: usize) -> RunRead
                     match n {
                         NumberLine::Refused(r) => refused_run(r),
                         NumberLine::Value { value: count, next } => {
-                            run_from(s, next, transitions, memory, denominator, count as usize)
+                            let head = Heading {
+                                memory,
+                                denominator,
+                                count: count as usize,
+                            };
+                            run_from(s, next, transitions, head)
                         }
                     }
                 }

@@ -11,6 +11,7 @@ use Rattle.laws.specs.Tables.{tabled, tabled-at, length-tabled}
 use Rattle.timing.specs.Solve.{instantAt}
 use Rattle.timing.specs.Windows.{instants}
 use Rattle.timing.specs.Schedule.{waitsFrom, waitsBetween, roundedFrom, roundedWaits}
+use Rattle.timing.proofs.Meet.{instants-zero}
 
 -- ---- the waits between instants
 length-from : (s : ℕ) (xs : List ℕ) → length (waitsFrom s xs) ≡ length xs
@@ -63,11 +64,14 @@ instants-between S n z up i l =
     ∙ tabled-at S (suc n) i (suc-le-suc l)
 
 -- ---- a wait, and the instants behind the last
-pub wait-le : (ws : List ℕ) (i : ℕ) → getD ws i 0 ≤ instants ws (suc i)
+pub instants-next : (ws : List ℕ) (i : ℕ) → instants ws (suc i) ≡ instants ws i + getD ws i 0
 unfolding instants
-wait-le [] i = omega arith
-wait-le (w ∷ ws) zero = omega arith
-wait-le (w ∷ ws) (suc i) = omega (arith, wait-le ws i)
+instants-next [] i = refl
+instants-next (w ∷ ws) zero = omega (arith, instants-zero ws)
+instants-next (w ∷ ws) (suc i) = omega (arith, instants-next ws i)
+
+pub wait-le : (ws : List ℕ) (i : ℕ) → getD ws i 0 ≤ instants ws (suc i)
+wait-le ws i = omega (arith, instants-next ws i)
 
 pub instants-past : (ws : List ℕ) (i : ℕ) → length ws ≤ i → instants ws i ≡ instants ws (length ws)
 unfolding instants

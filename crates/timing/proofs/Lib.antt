@@ -10,9 +10,12 @@ pub mod Solved
 pub mod Strict
 pub mod Every
 pub mod Order
+pub mod Origins
 pub mod Instants
 pub mod Timings
 pub mod Scheduled
 pub mod Markings
 pub mod Rounded
+pub mod RoundedClocks
 pub mod Places
+pub mod Same

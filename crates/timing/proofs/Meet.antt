@@ -37,16 +37,16 @@ MeetsAll D S k [] = Unit {0}
 MeetsAll D S k (w ∷ ws) = Meets D S k (winOf w) × MeetsAll D S (suc k) ws
 
 -- the instants from number k on follow the waits
-abbrev Follows : (ℕ → ℕ) → ℕ → List Firing → Type 0
+abbrev pub Follows : (ℕ → ℕ) → ℕ → List Firing → Type 0
 Follows S k [] = Unit {0}
 Follows S k (f ∷ fs) = (S (suc k) ≡ S k + f .wait) × Follows S (suc k) fs
 
 -- the state st of a run beside the state of its order after k firings
-record Along (S : ℕ → ℕ) (k : ℕ) (st course : State) : Type 0 where
-  marked : st .marking ≡ course .marking
-  counted : course .now ≡ k
-  at-instant : st .now ≡ S k
-  restarted : (u : ℕ) → getD (st .since) u 0 ≡ S (getD (course .since) u 0)
+pub record Along (S : ℕ → ℕ) (k : ℕ) (st course : State) : Type 0 where
+  pub marked : st .marking ≡ course .marking
+  pub counted : course .now ≡ k
+  pub at-instant : st .now ≡ S k
+  pub restarted : (u : ℕ) → getD (st .since) u 0 ≡ S (getD (course .since) u 0)
 
 within-latest : (D : ℕ) (l : Latest) (x y : ℕ) → x ≤ y → NotAfter D l (y - x) ↔ Within D (upperOf l) x y
 within-latest D Unbounded x y h = (λ e. tt, λ e. tt)
@@ -85,7 +85,7 @@ module _ (net : Net) (restarts : Restart) (D : ℕ) (S : ℕ → ℕ) (k : ℕ) 
         λ m. i .1 (rw clock-there (omega (arith, m .early), l .1 (m .late))),
       )
 
-  along-fired : Sound course → Along S (suc k) (fired net restarts (waited st w) t) (fired net restarts (waited course 1) t)
+  pub along-fired : Sound course → Along S (suc k) (fired net restarts (waited st w) t) (fired net restarts (waited course 1) t)
   unfolding fired waited
   along-fired hc =
       record {
@@ -147,7 +147,7 @@ unfolding instants
 instants-zero [] = refl
 instants-zero (w ∷ ws) = refl
 
-follows : (fs : List Firing) (S : ℕ → ℕ) (k b : ℕ) → ((i : ℕ) → S (k + i) ≡ b + instants (waitsOf fs) i) → Follows S k fs
+pub follows : (fs : List Firing) (S : ℕ → ℕ) (k b : ℕ) → ((i : ℕ) → S (k + i) ≡ b + instants (waitsOf fs) i) → Follows S k fs
 unfolding instants waitsOf
 follows [] S k b h = tt
 follows (f ∷ fs) S k b h = (
@@ -187,7 +187,7 @@ module _ (net : Net) (restarts : Restart) (D : ℕ) (fs : List Firing) where
   unfolding startState
   start-now = refl
 
-  start-along : Along (instants (waitsOf fs)) 0 (startState net) (startState net)
+  pub start-along : Along (instants (waitsOf fs)) 0 (startState net) (startState net)
   start-along =
       record {
         marked = refl;

@@ -6,6 +6,7 @@ use native.Mathlib.Omega.{arith}
 use mathlib.Core.Path.{_≡_, refl, ap, subst⁻¹}
 use mathlib.Core.List.{List, [], _∷_}
 use lib.ListN.{length, getD, take}
+use Rattle.laws.specs.Each.{Each, each-at}
 use Rattle.reply.specs.declared.Checked.the-variants.{Passed}
 use Rattle.form.proofs.Found.{also-first, also-second}
 use Rattle.net.specs.declared.Latest.{Latest}
@@ -77,19 +78,20 @@ tokens-prefix net (suc k) (t ∷ order) m n e =
     rw (also-first here rest e) (tokens-prefix net k order (after (arcsOf net) m t) (n + 1) (also-second here rest e))
 
 -- and each firing is of a transition of the net
-tokens-listed : (net : Net) (order m : List ℕ) (n : ℕ) → tokens net order m n ≡ Passed → (i : ℕ) → i < length order → getD order i 0 < arcsOf net .transitions
+pub tokens-listed : (net : Net) (order m : List ℕ) (n : ℕ) → tokens net order m n ≡ Passed → Each (λ t. t < arcsOf net .transitions) order
 unfolding tokens
-tokens-listed net [] m n e i l = absurd (not-suc-le-zero l)
-tokens-listed net (t ∷ order) m n e zero l =
-    enabled-listed (arcsOf net) m t (tokens-passed net m t (n + 1)
-    (also-first (tokensJudged net m t (n + 1)) (tokens net order (after (arcsOf net) m t) (n + 1)) e) .0)
-tokens-listed net (t ∷ order) m n e (suc i) l =
-    tokens-listed net order (after (arcsOf net) m t) (n + 1) (also-second (tokensJudged net m t (n + 1))
-    (tokens net order (after (arcsOf net) m t) (n + 1)) e) i (le-of-suc-le-suc l)
+tokens-listed net [] m n e = tt
+tokens-listed net (t ∷ order) m n e =
+    let here = tokensJudged net m t (n + 1) in
+    let rest = tokens net order (after (arcsOf net) m t) (n + 1) in (
+      enabled-listed (arcsOf net) m t (tokens-passed net m t (n + 1) (also-first here rest e) .0),
+      tokens-listed net order (after (arcsOf net) m t) (n + 1) (also-second here rest e),
+    )
 
 -- so no lower bound is over K where no transition's is
 pub windows-lows : (net : Net) (restarts : Restart) (order : List ℕ) → tokens net order (startMarking net) 0 ≡ Passed
     → (K : ℕ) → ((t : ℕ) → t < arcsOf net .transitions → transitionAt net t .earliest ≤ K) → LowsLe K 1 (windows (windowsOf net restarts order)) (length order)
 unfolding windowsOf
 windows-lows net restarts order e K h i l =
-    omega (arith, window-bounds net restarts order (startState net) i l .0, h (getD order i 0) (tokens-listed net order (startMarking net) 0 e i l))
+    let listed = each-at (λ t. t < arcsOf net .transitions) 0 order (tokens-listed net order (startMarking net) 0 e) i l in
+    omega (arith, window-bounds net restarts order (startState net) i l .0, h (getD order i 0) listed)

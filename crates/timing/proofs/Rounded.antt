@@ -1,13 +1,13 @@
 -- The rounded run of an accepted run is a run: its waits are the rounded waits, which are a timing of the same order in whole ticks. No number of it is
 -- over that of the run, so its card passes the checks. A timing in whole ticks makes a run likewise.
-use Prim.Native.Nat.{ℕ, zero, suc, _+_, _*_, _-_, _/_, _≤_, _<_, min}
+use Prim.Native.Nat.{ℕ, zero, suc, _+_, _/_, _≤_, _<_, min}
 use native.Mathlib.Nat.{le-of-suc-le-suc, not-suc-le-zero, min-le-right, min-eq-left}
 use native.Mathlib.Omega.{arith}
 use mathlib.Core.Path.{_≡_, refl, sym, ap, _∙_}
-use mathlib.Core.Logic.{⊎-elim}
+use mathlib.Core.Logic.{_↔_, ⊎-elim}
 use mathlib.Core.List.{List, [], _∷_}
 use lib.ListN.{length, getD, take}
-use Rattle.laws.specs.Division.{div-le, div-sum-le, whole-near, difference-near}
+use Rattle.laws.specs.Division.{div-le, div-sum-le}
 use Rattle.laws.specs.Each.{Each, each-of}
 use Rattle.laws.specs.Slots.{length-first, first-pad}
 use Rattle.laws.specs.Sums.{le-or-lt}
@@ -20,8 +20,9 @@ use Rattle.run.specs.declared.Order.{Order}
 use Rattle.run.specs.Run.{noFiring, runCard, orderCard, firingsOf, firesOf, orderOf, waitsOf}
 use Rattle.run.proofs.Ranges.{FiringFits, run-in-ranges, order-in-ranges}
 use Rattle.run.proofs.Same.{run-clean}
-use Rattle.firing.specs.Semantics.{arcsOf, Restart, transitionAt}
+use Rattle.firing.specs.Semantics.{arcsOf, Restart, transitionAt, Timed, ruleOf, Allowed}
 use Rattle.firing.specs.Replay.{startState, play, replay}
+use Rattle.firing.proofs.Accept.{played-exactly, rule-restarting}
 use Rattle.firing.proofs.Places.{length-firings}
 use Rattle.timing.specs.Windows.{instants, Timing}
 use Rattle.timing.specs.Schedule.{timed, schedule, roundedFrom, roundedWaits}
@@ -80,18 +81,27 @@ module _ (memory : Memory) (order waits : List ℕ) (e : length waits ≡ length
   unfolding timetableRun
   timetable-clean transitions = run-clean transitions (timetableRun memory order waits) (zipFirings waits order) (length-zip waits order e) few refl
 
-zip-accepted : (net : Net) (restarts : Restart) (order waits : List ℕ) → Timing net restarts 1 order waits
-    → play net restarts 1 (zipFirings waits order) (startState net) 0 .checked ≡ Passed
-zip-accepted net restarts order waits t =
-    run-timing net restarts 1 (zipFirings waits order) .1 (rw (order-zip waits order (t .complete), waits-zip waits order (t .complete)) t)
+-- ---- a timing makes a run: firings after waits pass exactly when the waits are a timing
+zip-timing : (net : Net) (restarts : Restart) (D : ℕ) (order waits : List ℕ) → length waits ≡ length order
+    → (play net restarts D (zipFirings waits order) (startState net) 0 .checked ≡ Passed) ↔ Timing net restarts D order waits
+zip-timing net restarts D order waits e = rw (order-zip waits order e, waits-zip waits order e) at (run-timing net restarts D (zipFirings waits order))
 
 -- a timing in whole ticks makes an accepted run
 pub timetable-accepted : (net : Net) (restarts : Restart) (memory : Memory) (order waits : List ℕ) → length order ≤ 64 → Timing net restarts 1 order waits
     → replay net restarts (timetableRun memory order waits) .checked ≡ Passed
 unfolding replay timetableRun
 timetable-accepted net restarts memory order waits few t =
-    ap (λ (fs : List Firing). play net restarts 1 fs (startState net) 0 .checked) (timetable-firings memory order waits (t .complete) few)
-    ∙ zip-accepted net restarts order waits t
+    rw (timetable-firings memory order waits (t .complete) few) (zip-timing net restarts 1 order waits (t .complete) .1 t)
+
+-- a timing under a memory word is a run of the published semantics with these waits and no rest
+pub timings-are-runs : (net : Net) (memory : Memory) (D : ℕ) (order waits : List ℕ) → Timing net (ruleOf (arcsOf net) memory) D order waits
+    ↔ ((length waits ≡ length order) × ((end : Timed) × Allowed net (ruleOf (arcsOf net) memory) D (zipFirings waits order) 0 end))
+timings-are-runs net memory D order waits =
+    let rule = ruleOf (arcsOf net) memory in
+    let allowed = played-exactly net rule D (zipFirings waits order) 0 (rule-restarting net memory) in (
+      λ t. (t .complete, allowed .0 (zip-timing net rule D order waits (t .complete) .1 t)),
+      λ h. zip-timing net rule D order waits (h .0) .0 (allowed .1 (h .1)),
+    )
 
 -- ---- the rounded run
 module _ (r : Run) where
@@ -125,11 +135,8 @@ module _ (r : Run) where
   pub rounded-waits : waitsOf (firingsOf (roundedRun r)) ≡ roundedWaits D (waitsOf fs)
   rounded-waits = ap waitsOf rounded-firings ∙ waits-zip _ _ rounded-sizes
 
-  last-firing : lastInstant (roundedRun r) ≡ instants (roundedWaits D (waitsOf fs)) (length fs)
-  unfolding lastInstant
-  last-firing =
-      ap (λ (ws : List ℕ). instants ws (length (firingsOf (roundedRun r)))) rounded-waits
-      ∙ ap (instants (roundedWaits D (waitsOf fs))) (sym (length-order (firingsOf (roundedRun r))) ∙ ap length rounded-order ∙ length-order fs)
+  pub rounded-count : length (firingsOf (roundedRun r)) ≡ length fs
+  rounded-count = sym (length-order (firingsOf (roundedRun r))) ∙ ap length rounded-order ∙ length-order fs
 
   module _ (d : 0 < r .denominator) where
     -- each instant is the run's, rounded down
@@ -139,7 +146,7 @@ module _ (r : Run) where
     -- and so is the end
     rounded-last : lastInstant (roundedRun r) ≡ lastInstant r / D
     unfolding lastInstant
-    rounded-last = last-firing ∙ rounded-instants D d (waitsOf fs) (length fs)
+    rounded-last = rounded-instant (length (firingsOf (roundedRun r))) ∙ rw rounded-count refl
 
     pub rounded-end : endInstant (roundedRun r) ≡ endInstant r / D
     unfolding endInstant roundedRun
@@ -150,9 +157,8 @@ module _ (r : Run) where
       pub rounded-accepted : replay net restarts (roundedRun r) .checked ≡ Passed
       unfolding replay roundedRun
       rounded-accepted =
-          ap (λ (gs : List Firing). play net restarts 1 gs (startState net) 0 .checked) rounded-firings
-          ∙ zip-accepted net restarts (orderOf fs) (roundedWaits D (waitsOf fs))
-          (rounded-timing net restarts (orderOf fs) D d (waitsOf fs) (run-timing net restarts D fs .0 e))
+          rw rounded-firings (zip-timing net restarts 1 (orderOf fs) (roundedWaits D (waitsOf fs)) rounded-sizes .1
+          (rounded-timing net restarts (orderOf fs) D d (waitsOf fs) (run-timing net restarts D fs .0 e)))
 
       -- with the same marking after each firing
       pub same-markings : (i : ℕ) → play net restarts D (take i fs) (startState net) 0 .state .marking
@@ -244,22 +250,3 @@ pub scheduled-checked : (net : Net) (restarts : Restart) (o : Order) (ws : List 
 scheduled-checked net restarts o ws e h p =
     timetable-checked (net .transitions) o (o .memory) ws p (scheduled-timing net restarts (firesOf o) ws e .complete)
     (scheduled-short net restarts (firesOf o) ws e h (fires-few o))
-
--- ---- "Each clock and each instant moves by less than one tick": in parts, of which a tick has D
-instants-up : (ws : List ℕ) (o i : ℕ) → o ≤ i → instants ws o ≤ instants ws i
-unfolding instants
-instants-up [] o i h = omega arith
-instants-up (w ∷ ws) zero i h = omega arith
-instants-up (w ∷ ws) (suc o) zero h = absurd (not-suc-le-zero h)
-instants-up (w ∷ ws) (suc o) (suc i) h = omega (arith, instants-up ws o i (le-of-suc-le-suc h))
-
-module _ (D : ℕ) (d : 0 < D) (waits : List ℕ) where
-  pub instants-near : (i : ℕ) → (D * instants (roundedWaits D waits) i ≤ instants waits i) × (instants waits i < D * instants (roundedWaits D waits) i + D)
-  instants-near i = rw (rounded-instants D d waits i) (whole-near D d (instants waits i))
-
-  -- the clock of firing i, counted from the instant of firing o
-  pub clocks-near : (o i : ℕ) → o ≤ i
-      → (D * (instants (roundedWaits D waits) i - instants (roundedWaits D waits) o) < instants waits i - instants waits o + D)
-      × (instants waits i - instants waits o < D * (instants (roundedWaits D waits) i - instants (roundedWaits D waits) o) + D)
-  clocks-near o i h =
-      rw (rounded-instants D d waits i, rounded-instants D d waits o) (difference-near D d (instants waits o) (instants waits i) (instants-up waits o i h))

@@ -2,6 +2,5 @@ pub mod Claims
 pub mod Rounding
 pub mod Schedule
 pub mod Solve
-pub mod Starred
 pub mod Timing
 pub mod Windows

@@ -1,8 +1,9 @@
 -- Document 01, "Windows and instants": the window of each firing of an order, and the timings that meet them.
 use Prim.Native.Nat.{ℕ, zero, suc, _+_}
 use mathlib.Core.Path.{_≡_}
+use mathlib.Core.Bool.{cond}
 use mathlib.Core.List.{List, [], _∷_}
-use lib.ListN.{length, getD}
+use lib.ListN.{length, getD, take}
 use Rattle.reply.specs.declared.Checked.the-variants.{Passed}
 use Rattle.net.specs.declared.Latest.{Latest}
 use Rattle.net.specs.declared.Latest.the-variants.{Unbounded, Ticks}
@@ -11,7 +12,7 @@ use Rattle.net.specs.Net.{noTransition}
 use Rattle.firing.specs.declared.State.{State}
 use Rattle.firing.specs.Semantics.{Restart, transitionAt, startMarking}
 use Rattle.firing.specs.Replay.{startState, waited, fired}
-use Rattle.firing.specs.Tokens.{tokens}
+use Rattle.firing.specs.Tokens.{tokens, markingAfter}
 use Rattle.timing.specs.declared.Window.{Window}
 use Rattle.timing.specs.Timing.{Upper, atMost, unbounded, Win, Feasible}
 
@@ -40,6 +41,12 @@ windowsFrom net restarts (t ∷ ts) st = windowAt net st t ∷ windowsFrom net r
 
 unfoldable pub windowsOf : Net → Restart → List ℕ → List Window
 windowsOf net restarts order = windowsFrom net restarts order (startState net)
+
+-- "last restarted, before firing i, at firing o (0 for the beginning)": the last of the first i firings at which u restarted, from order, markings and rule
+unfoldable pub lastRestart : Net → Restart → List ℕ → ℕ → ℕ → ℕ
+lastRestart net restarts order zero u = 0
+lastRestart net restarts order (suc i) u =
+    cond (restarts (markingAfter net (startMarking net) (take i order)) (getD order i 0) u) (suc i) (lastRestart net restarts order i u)
 
 -- S0 = 0, and Si is the sum of the first i waits
 unfoldable pub instants : List ℕ → ℕ → ℕ

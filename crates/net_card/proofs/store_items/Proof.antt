@@ -38,7 +38,8 @@ loop-again c =
     let f = n .before .before in
     let l = f .before in
     let i = l .before .loop .inv in (
-      rw (c .store .ensures .0, c .store .ensures .1) (storing-more (i .0) (i .1) (not-last _ _ (l .loop-test .taken)) (sym (f .item-at .ensures) ∙ n .n .given .1)),
+      rw (c .store .ensures .0, c .store .ensures .1)
+          (storing-more (i .0) (i .1) (not-last _ _ (l .loop-test .taken)) (sym (f .item-at .ensures) ∙ n .n .given .1)),
       l .loop-test .taken,
     )
 
@@ -78,6 +79,7 @@ pub store-items-spec : {M : Type 1} → statement M
 store-items-spec =
     tie.close
     (tie.spec Inv-loop μ-loop loop-holds (λ c. search needs) (λ c κs. search needs) (λ c. search needs) (λ c. search needs) returns
-    (λ c κs. within (c .before .before .before .before .before .before)) (λ c. search (needs, within (c .before .before .before .before .before .before .before)))
+    (λ c κs. within (c .before .before .before .before .before .before))
+    (λ c. search (needs, within (c .before .before .before .before .before .before .before)))
     (λ c. search needs) (λ c. search needs) loop-again (λ c κs. search needs) (λ c. search needs) (λ c. search needs) returns-2
     (λ c κs. within (c .before .before .before .before .before .before)) returns-3 returns-4)

@@ -27,8 +27,8 @@ returns-4 : tie.Need-returns-4
 returns-4 c =
     let k = c .before in
     let a = k .before .before .before .before .args in
-    field-nothing (a .s .now) (a .at) (a .last)
-    (digits-stop (a .s .now) (a .at) (k .before .before .if1 .left) (sym (no-digit (getD (a .s .now) (a .at) 0) _ (sym (k .class-of .ensures)) (c .match .keys3))))
+    let none = no-digit (getD (a .s .now) (a .at) 0) _ (sym (k .class-of .ensures)) (c .match .keys3) in
+    field-nothing (a .s .now) (a .at) (a .last) (digits-stop (a .s .now) (a .at) (k .before .before .if1 .left) (sym none))
 
 pub field-at-spec : {M : Type 1} → statement M
 field-at-spec =

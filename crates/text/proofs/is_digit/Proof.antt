@@ -1,7 +1,7 @@
 -- The class of a byte says whether it is a digit.
 use mathlib.Core.Path.{sym, _∙_}
 use borrow.Author.Needs.{needs}
-use Rattle.text.specs.declared.ByteClass.the-variants.{Zero, Digit}
+use Rattle.text.specs.declared.ByteClass.the-variants.{Zero}
 use Rattle.text.proofs.ReadNumber.{digit-class, no-digit}
 use Rattle.text.proofs.is_digit.Statement.{statement}
 use Rattle.text.proofs.is_digit.Tie as tie

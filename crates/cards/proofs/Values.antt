@@ -1,0 +1,85 @@
+-- A net and a run or an order of it, handed over as values, are checked as the input of their cards is read.
+use Prim.Native.Nat.{ℕ, _+_, _≤_}
+use native.Mathlib.Nat.{min-eq-left}
+use native.Mathlib.Omega.{arith}
+use mathlib.Core.Path.{_≡_, refl, sym, ap, _∙_}
+use mathlib.Core.List.{List, _++_}
+use lib.ListN.{length, drop, length-append}
+use Rattle.laws.specs.Writing.{drop-behind}
+use Rattle.reply.specs.declared.Checked.the-variants.{Passed}
+use Rattle.form.specs.Form.{found, foundIf, also, Form}
+use Rattle.form.specs.Line.{writable}
+use Rattle.form.specs.Inverse.{Format, Told}
+use Rattle.form.proofs.Found.{also-first, also-second, judged-then, judged-more}
+use Rattle.form.proofs.Writable.{alone-told, told-text}
+use Rattle.net.specs.declared.Net.{Net}
+use Rattle.net.specs.Net.{netCard}
+use Rattle.net.specs.Same.{writableNet}
+use Rattle.net.proofs.Card.{net-inverse, net-settled, net-transitions}
+use Rattle.net.proofs.Writable.{net-told}
+use Rattle.run.specs.declared.Run.{Run}
+use Rattle.run.specs.declared.Order.{Order}
+use Rattle.run.specs.Run.{runCard, orderCard}
+use Rattle.run.specs.Same.{writableRun, writableOrder}
+use Rattle.run.proofs.Card.{run-format, order-format}
+use Rattle.run.proofs.Writable.{run-told, order-told}
+use Rattle.cards.specs.Cards.{bothCards, runCards, orderCards, runChecked, orderChecked, inputOf}
+
+module _ {A : Type 0} (card : ℕ → Form A) {reach most : ℕ} (w : (transitions : ℕ) → Format (transitions ≤ 32) (card transitions) reach most)
+    (cut : A → A) (z : (transitions : ℕ) → transitions ≤ 32 → Told (card transitions) cut) (net : Net) (a : A) where
+  -- the counts of a net that passes can be written
+  few-written : netCard .check net 1 ≡ Passed → writable (net .transitions) ≡ net .transitions
+  few-written p = let few = net-transitions net p .1 in min-eq-left {m = 999999999} (omega arith)
+
+  -- what passes its check can be written as it is
+  input-same : netCard .check net 1 ≡ Passed → card (net .transitions) .check a 1 ≡ Passed → inputOf card (writableNet net) (cut a) ≡ inputOf card net a
+  unfolding writableNet
+  input-same p q =
+      let few = net-transitions net p .1 in
+      let first = told-text net-told net-inverse net-settled net 1 p in
+      let second = told-text (z (net .transitions) few) (w (net .transitions) .inverse few) (w (net .transitions) .settled) a 1 q in
+      ap (λ (l : List ℕ). l ++ card (writable (net .transitions)) .text (cut a)) first
+      ∙ ap (λ (n : ℕ). netCard .text net ++ card n .text (cut a)) (few-written p)
+      ∙ ap (λ (l : List ℕ). netCard .text net ++ l) second
+
+  both-told : bothCards card (inputOf card (writableNet net) (cut a))
+      ≡ foundIf (also (netCard .check net 1) (card (net .transitions) .check a 1)) (netCard .clean net, card (net .transitions) .clean a)
+      (length (inputOf card net a))
+  unfolding writableNet
+  both-told =
+      let f = card (net .transitions) in
+      let t = netCard .text (writableNet net) in
+      let u = card (writable (net .transitions)) .text (cut a) in
+      rw (net-told .told net (t ++ u) u 0 1 refl)
+      (judged-then (netCard .check net 1) (f .check a 1) (netCard .clean net) (0 + length t) _ _ _ (λ p.
+      let few = net-transitions net p .1 in
+      let behind : drop (0 + length t) (t ++ u) ≡ f .text (cut a) = drop-behind (t ++ u) t u 0 refl ∙ ap (λ (n : ℕ). card n .text (cut a)) (few-written p) in
+      let same = ap (λ (n : ℕ). length (card n .text (cut a))) (few-written p) in
+      let long : 0 + length t + length (f .text (cut a)) ≡ length (t ++ u) = omega (arith, length-append t u) in
+      rw (behind, alone-told (z (net .transitions) few) a)
+      (judged-more (f .check a 1) (f .clean a) _ _ _ _ (λ q.
+      ap (found (netCard .clean net, f .clean a)) (long ∙ ap length (input-same p q))))))
+
+-- a value is told by its check as its card is told by reading, a number too long to write standing as the largest that can be written
+pub run-cards-told : (net : Net) (r : Run) → runCards (inputOf runCard (writableNet net) (writableRun r))
+    ≡ foundIf (runChecked net r) (netCard .clean net, runCard (net .transitions) .clean r) (length (inputOf runCard net r))
+run-cards-told = both-told runCard run-format writableRun run-told
+
+pub order-cards-told : (net : Net) (o : Order) → orderCards (inputOf orderCard (writableNet net) (writableOrder o))
+    ≡ foundIf (orderChecked net o) (netCard .clean net, orderCard (net .transitions) .clean o) (length (inputOf orderCard net o))
+order-cards-told = both-told orderCard order-format writableOrder order-told
+
+-- what passes its check is read back from its cards, up to the slots past the counts
+pub run-input-back : (net : Net) (r : Run) → runChecked net r ≡ Passed
+    → runCards (inputOf runCard net r) ≡ found (netCard .clean net, runCard (net .transitions) .clean r) (length (inputOf runCard net r))
+run-input-back net r p =
+    let q = also-first (netCard .check net 1) _ p in
+    let same = input-same runCard run-format writableRun run-told net r q (also-second (netCard .check net 1) _ p) in
+    ap runCards (sym same) ∙ run-cards-told net r ∙ rw p refl
+
+pub order-input-back : (net : Net) (o : Order) → orderChecked net o ≡ Passed
+    → orderCards (inputOf orderCard net o) ≡ found (netCard .clean net, orderCard (net .transitions) .clean o) (length (inputOf orderCard net o))
+order-input-back net o p =
+    let q = also-first (netCard .check net 1) _ p in
+    let same = input-same orderCard order-format writableOrder order-told net o q (also-second (netCard .check net 1) _ p) in
+    ap orderCards (sym same) ∙ order-cards-told net o ∙ rw p refl
