@@ -98,7 +98,7 @@ listed-ascends k (e ∷ es) i j l b = go (tookFrom k (e .from)) i j (listed-asce
 
 pub free-ascends : (firings : List Event) (i j : ℕ) → i < j → j < length (free firings) → getD (free firings) i 0 < getD (free firings) j 0
 unfolding free
-free-ascends firings = listed-ascends 1 (drop 1 firings)
+free-ascends firings = listed-ascends _ (drop 1 firings)
 
 module _ (net : Net) (order : List ℕ) (i : ℕ) where
   behind : (k : ℕ) → i ≡ 1 + k → getD (drop 1 (events net order)) k noEvent ≡ getD (events net order) i noEvent

@@ -51,7 +51,8 @@ use Rattle.operations.specs.Replay.{endText, ended, replayOf}
 use Rattle.operations.specs.Timetable.{scheduleText, timetableOf, timetableValues}
 use Rattle.operations.specs.Outcomes.{OnRun, replaying, Operation, of-run, of-order, of-run-cards, of-order-cards, write-net, write-run, write-order}
 use Rattle.operations.specs.Outcomes.{workOf, valuesOf, outcomeOf}
-use Rattle.operations.specs.Demands.{WrittenExactly, BytesSettled, RefusedExactly, TooShortExactly, NothingAltered, RunAsCards, OrderAsCards, CardsFirst}
+use Rattle.operations.specs.Demands.{WrittenExactly, BytesSettled, RefusedExactly, TooShortExactly, NothingAltered, RunAsCards, OrderAsCards}
+use Rattle.operations.specs.Demands.{ValuesRefusedAsCards, CardsFirst}
 use Rattle.operations.specs.Demands.{SlotsNoPart, PrefixDecides, Allows, AcceptedExactly, AcceptedCardsExactly, RefusedAt, RefusedAtExactly}
 use Rattle.operations.specs.Demands.{RefusedAtCardsExactly, PrintedEnd}
 use Rattle.operations.specs.Demands.{ReadWritten, InputsReadWritten, WrittenRead, InputsWrittenRead, TicksExactlyParts, TimingsAreRuns}
@@ -86,6 +87,23 @@ order-as-cards net o = rw (order-cards-told net o) (go (orderChecked net o) refl
         let (places, transitions, count) = order-counts net o p in
         sym (timetable-same (net-same net places transitions) (order-same (net .transitions) o count))
     go (checked.Refused e) p = refl
+
+-- a check that refuses refuses the text and the reading alike
+refused-alike : {A : Type 0} (c : Checked) (text : List ℕ) (a : A) (next : ℕ) (e : Refusal) → (writtenIf c text ≡ refusal e) ↔ (foundIf c a next ≡ refused e)
+refused-alike Passed text a next e = (
+  λ p. absurd (no-answer (sym p)),
+  λ p. let z : _≡_ {A = ℕ} 0 1 = cc in absurd (omega arith),
+)
+refused-alike (checked.Refused q) text a next e = (λ p. cc, λ p. cc)
+
+pub values-refused-as-cards : ValuesRefusedAsCards
+values-refused-as-cards = (
+  λ net rest e.
+      rw (net-told .told net (netCard .text (writableNet net) ++ rest) rest 0 1 refl)
+      (refused-alike (netCard .check net 1) (netCard .text net) (netCard .clean net) _ e),
+  λ net r e. rw (run-cards-told net r) (refused-alike (runChecked net r) _ _ _ e),
+  λ net o e. rw (order-cards-told net o) (refused-alike (orderChecked net o) _ _ _ e),
+)
 
 pub cards-first : CardsFirst
 cards-first = (λ what s r e. rw e refl, λ s r e. rw e refl)

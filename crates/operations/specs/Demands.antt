@@ -71,6 +71,14 @@ RunAsCards = (what : OnRun) (net : Net) (r : Run) → valuesOf what net r ≡ ca
 abbrev pub OrderAsCards : Type 0
 OrderAsCards = (net : Net) (o : Order) → timetableValues net o ≡ timetableCards (inputOf orderCard (writableNet net) (writableOrder o))
 
+-- and so are a net, a run and an order refused where their cards are asked for
+abbrev pub ValuesRefusedAsCards : Type 0
+ValuesRefusedAsCards =
+    ((net : Net) (rest : List ℕ) (e : Refusal) → (netText net ≡ refusal e) ↔ (netCard .read (netCard .text (writableNet net) ++ rest) 0 1 ≡ refused e))
+    × ((net : Net) (r : Run) (e : Refusal) → (runText net r ≡ refusal e) ↔ (runCards (inputOf runCard (writableNet net) (writableRun r)) ≡ refused e))
+    × ((net : Net) (o : Order) (e : Refusal)
+    → (orderText net o ≡ refusal e) ↔ (orderCards (inputOf orderCard (writableNet net) (writableOrder o)) ≡ refused e))
+
 abbrev pub CardsFirst : Type 0
 CardsFirst =
     ((what : OnRun) (s : List ℕ) (r : Refusal) → runCards s ≡ refused r → cardsOf what s ≡ refusal r)
@@ -204,7 +212,8 @@ module _ (net : Net) (restarts : Restart) (o : Order) where
   -- "The timetable is a whole-tick run of that order, and in every timing at any denominator each firing is at the timetable's instant or later"
   abbrev pub TimetableEarliest : Type 0
   TimetableEarliest =
-      orderChecked net o ≡ checked.Passed → (bytes : List ℕ) → timetableBy net restarts o ≡ answer bytes → (r : Run) × WholeTickRun net restarts bytes r × EarliestRun net restarts o r
+      orderChecked net o ≡ checked.Passed → (bytes : List ℕ) → timetableBy net restarts o ≡ answer bytes
+      → (r : Run) × WholeTickRun net restarts bytes r × EarliestRun net restarts o r
 
 module _ (net : Net) (restarts : Restart) (r : Run) where
   -- "every run accepted under 2, whatever its denominator, comes back"
