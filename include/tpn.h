@@ -1,6 +1,7 @@
 /* Timed runs of weak time Petri nets: the four operations on cards.
  *
  * Each reads a net card and, right behind it, a run card (tpn_timetable: an order card) from input, and writes its answer to the front of output.
+ * The line `memory` of the second card is one of the words intermediate, atomic and carry.
  * A result from 0 up is the number of bytes written; the bytes of output behind them stay as they were.
  * A negative result is a refusal, -(number * 65536 + place), and no byte of output is altered.
  * Nothing is asked of the input. The pointers must not be null, also where a length is 0, and output must not overlap input.

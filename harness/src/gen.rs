@@ -77,7 +77,7 @@ fn size(rng: &mut Rng) -> Size {
 }
 
 fn memory(rng: &mut Rng) -> Memory {
-    rng.pick(&[Memory::Intermediate, Memory::Atomic])
+    rng.pick(&[Memory::Intermediate, Memory::Atomic, Memory::Carry])
 }
 
 fn sizes(rng: &mut Rng, size: Size) -> (usize, usize) {
@@ -292,7 +292,8 @@ fn miss(rng: &mut Rng, net: &mut Net, run: &mut Run, end: &State) {
         4 => {
             run.memory = match run.memory {
                 Memory::Intermediate => Memory::Atomic,
-                Memory::Atomic => Memory::Intermediate,
+                Memory::Atomic => Memory::Carry,
+                Memory::Carry => Memory::Intermediate,
             }
         }
         5 if firings > 0 => {

@@ -14,6 +14,7 @@ pub type Refusal = (u64, u64);
 pub enum Memory {
     Intermediate,
     Atomic,
+    Carry,
 }
 
 #[derive(Clone, Debug, PartialEq, Eq)]
@@ -60,6 +61,7 @@ impl Memory {
         match self {
             Memory::Intermediate => "intermediate",
             Memory::Atomic => "atomic",
+            Memory::Carry => "carry",
         }
     }
 }
@@ -214,6 +216,7 @@ impl<'a> Lines<'a> {
         match self.value("memory")? {
             b"intermediate" => Ok(Memory::Intermediate),
             b"atomic" => Ok(Memory::Atomic),
+            b"carry" => Ok(Memory::Carry),
             _ => self.bad(1),
         }
     }
@@ -354,11 +357,11 @@ impl Net {
 
     /// Whether u, enabled after t fired at the marking, restarts.
     fn restarts(&self, memory: Memory, marking: &[u64], t: usize, u: usize) -> bool {
-        u == t
-            || match memory {
-                Memory::Intermediate => !self.enabled(&self.middle(marking, t), u),
-                Memory::Atomic => !self.enabled(marking, u),
-            }
+        match memory {
+            Memory::Intermediate => u == t || !self.enabled(&self.middle(marking, t), u),
+            Memory::Atomic => u == t || !self.enabled(marking, u),
+            Memory::Carry => !self.enabled(marking, u),
+        }
     }
 }
 

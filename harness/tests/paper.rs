@@ -57,7 +57,7 @@ fn times(net: &Net, memory: &str, fire: &[u64], instants: &[u64]) {
     );
 }
 
-const BOTH: [&str; 2] = ["intermediate", "atomic"];
+const WORDS: [&str; 3] = ["intermediate", "atomic", "carry"];
 
 #[test]
 fn session() {
@@ -77,7 +77,7 @@ fn session() {
         &[0, 0, 0, 0, 0, 1],
         &[1, 2, 3, 4, 5, 8],
     );
-    for memory in BOTH {
+    for memory in WORDS {
         refuses("timetable", &(a.clone() + &order(memory, &[1, 0])), 5, 2);
         times(&net_a(), memory, &[], &[]);
         times(&net_b(), memory, &[0, 1, 2], &[3, 5, 5]);
@@ -209,7 +209,19 @@ fn lines_of_the_second_card() {
         |card: &str, number, place| refuses("timetable", &(a.clone() + card), number, place);
     replay("", 1, 1);
     refuses("replay", "", 1, 1);
-    replay("memory=carry|", 1, 1);
+    for word in [
+        "Carry|",
+        "carr|",
+        "carryx|",
+        "carry |",
+        "carry",
+        "carryatomic|",
+    ] {
+        replay(&format!("memory={word}"), 1, 1);
+        timetable(&format!("memory={word}"), 1, 1);
+    }
+    replay("memory=carry|", 1, 2);
+    timetable("memory=carry|", 1, 2);
     replay("memory=atomic", 1, 1);
     replay("memory=atomic|denominator=0|", 2, 2);
     replay("memory=atomic|denominator=00|", 1, 2);
@@ -331,7 +343,7 @@ fn firing() {
         &(kept.card() + &run("atomic", 1, &[(0, 0)], 0)),
         "end=255|clock=0|",
     );
-    for memory in BOTH {
+    for memory in ["intermediate", "atomic"] {
         times(
             &net(&[2], &[(3, Some(3), &[1], &[0])]),
             memory,
@@ -363,6 +375,61 @@ fn firing() {
     let pulse = net(&[1], &[(0, None, &[1], &[1])]);
     let halves = pulse.card() + &run("atomic", 2, &[(1, 0), (1, 0)], 0);
     prints("round", &halves, &run("atomic", 1, &[(0, 0), (1, 0)], 0));
+}
+
+/// A clock restarts only if its transition was not enabled before the firing, that of the fired one too.
+#[test]
+fn carry() {
+    let a = net_a();
+    times(&a, "carry", &[0, 0], &[1, 1]);
+    times(&a, "carry", &[0, 0, 1], &[1, 1, 3]);
+    let two = net(&[1], &[(1, Some(1), &[1], &[1]), (2, Some(2), &[1], &[1])]);
+    refuses(
+        "timetable",
+        &(two.card() + &order("carry", &[0, 1, 0])),
+        8,
+        3,
+    );
+    times(&two, "atomic", &[0, 1, 0], &[1, 2, 2]);
+    times(&two, "intermediate", &[0, 1, 0], &[1, 3, 4]);
+    times(&two, "carry", &[0, 0, 1], &[1, 1, 2]);
+    times(&two, "atomic", &[0, 0, 1], &[1, 2, 2]);
+    times(&two, "intermediate", &[0, 0, 1], &[1, 2, 4]);
+    let taken = net(&[2], &[(3, Some(3), &[1], &[0])]);
+    times(&taken, "carry", &[0, 0], &[3, 3]);
+    let free = net(&[1], &[(1, Some(2), &[0], &[0])]);
+    times(&free, "carry", &[0, 0, 0], &[1, 1, 1]);
+    let away = net(
+        &[1, 0],
+        &[
+            (0, None, &[1, 0], &[0, 1]),
+            (1, None, &[0, 1], &[1, 0]),
+            (2, Some(3), &[1, 0], &[1, 0]),
+        ],
+    );
+    for memory in WORDS {
+        times(&away, memory, &[2, 0, 1, 2], &[2, 2, 3, 5]);
+    }
+    let runs = |firings: &[(u64, u64)]| {
+        let card = |memory: &str| a.card() + &run(memory, 1, firings, 0);
+        (card("carry"), card("atomic"), card("intermediate"))
+    };
+    let (carry, atomic, intermediate) = runs(&[(1, 0), (0, 0), (1, 0)]);
+    prints("replay", &carry, "end=1,1|clock=2|clock=2|");
+    refuses("replay", &atomic, 7, 2);
+    refuses("replay", &intermediate, 7, 2);
+    let (carry, atomic, intermediate) = runs(&[(1, 0), (0, 0), (2, 0)]);
+    refuses("replay", &carry, 7, 3);
+    refuses("replay", &atomic, 7, 2);
+    refuses("replay", &intermediate, 7, 2);
+    let halves = [(3, 0), (0, 0), (1, 0), (0, 0), (2, 1)];
+    let whole = [(1, 0), (0, 0), (1, 0), (0, 0), (1, 1)];
+    prints(
+        "round",
+        &(a.card() + &run("carry", 2, &halves, 0)),
+        &run("carry", 1, &whole, 0),
+    );
+    refuses("round", &(a.card() + &run("atomic", 2, &halves, 0)), 7, 2);
 }
 
 #[test]

@@ -22,7 +22,7 @@ fn small_order(rng: &mut Rng, firings: usize) -> (Net, Order) {
         transition.latest = rng.pick(&[None, Some(latest), Some(latest)]);
     }
     let mut order = Order {
-        memory: rng.pick(&[Memory::Intermediate, Memory::Atomic]),
+        memory: rng.pick(&[Memory::Intermediate, Memory::Atomic, Memory::Carry]),
         fire: Vec::new(),
     };
     for _ in 0..firings {

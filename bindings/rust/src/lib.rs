@@ -135,6 +135,17 @@ mod tests {
     }
 
     #[test]
+    fn memory_words() {
+        let mut out = [0u8; TIMETABLE_MAX];
+        for (word, wait) in [("intermediate", 1), ("atomic", 1), ("carry", 0)] {
+            let card = format!("memory={word}\nfirings=2\nfire=0\nfire=0\n");
+            let n = timetable(&input(card.as_bytes()), &mut out).unwrap();
+            let answer = format!("memory={word}\ndenominator=1\nfirings=2\nwait=1\nfire=0\nwait={wait}\nfire=0\nrest=0\n");
+            assert_eq!(out[..n], *answer.as_bytes());
+        }
+    }
+
+    #[test]
     fn refusals() {
         let mut out = [7u8; 16];
         let late = timetable(&input(b"memory=atomic\nfirings=2\nfire=1\nfire=0\n"), &mut out).unwrap_err();

@@ -19,18 +19,16 @@ use Rattle.reply.specs.declared.Refusal.the-variants.{Untimable, OutputTooShort
 use Rattle.reply.specs.declared.Checked.{Checked}
 use Rattle.reply.specs.declared.Checked.the-variants.{Passed, Refused}
 use Rattle.net.specs.declared.Net.{Net}
-use Rattle.run.specs.declared.Memory.{Memory}
-use Rattle.run.specs.declared.Memory.the-variants.{Intermediate, Atomic}
 use Rattle.run.specs.declared.Firing.{Firing}
 use Rattle.run.specs.declared.Run.{Run}
 use Rattle.run.specs.Run.{firingsOf}
 use Rattle.firing.specs.declared.State.{State}
 use Rattle.firing.specs.declared.Played.{Played}
-use Rattle.firing.specs.Semantics.{arcsOf, Restart, transitionAt, Timed, startMarking, enabled, taken, after, ruleOf}
+use Rattle.firing.specs.Semantics.{arcsOf, Restart, transitionAt, Timed, startMarking, enabled, after}
 use Rattle.firing.specs.Semantics.{Initial, Elapses, Steps, none, one, Allowed}
 use Rattle.firing.specs.Replay.{startState, waited, clockOf, timely, limited, judgedBy, fired, judged, stepOn, play, replay}
 use Rattle.firing.specs.Claims.{view, Matches, Restarting, OnTime, Because, FirstRefused}
-use Rattle.firing.proofs.Clocks.{Sound, few-places, sound-waited, sound-fired, timely-true, tokensOn, after-at, taken-enabled}
+use Rattle.firing.proofs.Clocks.{Sound, few-places, sound-waited, sound-fired, timely-true, tokensOn, after-at}
 use Rattle.firing.proofs.Agree.{refused-not, passes, view-elapses, view-fires, view-bounded}
 use Rattle.firing.proofs.Agree.{play-sound, play-steps, matches-waited, Replayed, play-complete}
 
@@ -341,17 +339,3 @@ module _ (net : Net) (restarts : Restart) (r : Run) where
         λ p. refused-from net restarts D (firingsOf r) S (startState net) 0 e m (refused-first e p),
         λ x. refused-play net restarts D h (firingsOf r) S (startState net) 0 e (start-sound net) m x,
       )
-
--- ---- both memory words restart what was not enabled before
-module _ (net : Net) where
-  restarts-if : (a b c : Bool) → a ≡ true → b ≡ false → (a && (not b || c)) ≡ true
-  restarts-if a b c p q = rw (p, q) refl
-
-  pub rule-restarting : (memory : Memory) → Restarting net (ruleOf (arcsOf net) memory)
-  unfolding Restarting ruleOf
-  rule-restarting Atomic m t u e n = restarts-if _ _ _ e n
-  rule-restarting Intermediate m t u e n = restarts-if _ _ _ e (go (enabled (arcsOf net) (taken (arcsOf net) m t) u) refl)
-    where
-      go : (b : Bool) → enabled (arcsOf net) (taken (arcsOf net) m t) u ≡ b → b ≡ false
-      go true p = sym (taken-enabled (arcsOf net) m t u p) ∙ n
-      go false p = refl

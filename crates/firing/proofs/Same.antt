@@ -14,14 +14,13 @@ use Rattle.laws.specs.Arrays.{filled, filled-same}
 use Rattle.net.specs.declared.Net.{Net}
 use Rattle.net.specs.Same.{SameNet}
 use Rattle.run.specs.declared.Memory.{Memory}
-use Rattle.run.specs.declared.Memory.the-variants.{Intermediate, Atomic}
 use Rattle.run.specs.declared.Firing.{Firing}
 use Rattle.run.specs.declared.Run.{Run}
 use Rattle.run.specs.Run.{firingsOf}
 use Rattle.run.specs.Same.{SameRun}
 use Rattle.run.proofs.Same.{same-firings}
 use Rattle.firing.specs.declared.State.{State}
-use Rattle.firing.specs.Semantics.{arcsOf, takes, gives, Restart, transitionAt, startMarking, enough, enabled, taken, after, ruleOf}
+use Rattle.firing.specs.Semantics.{arcsOf, takes, gives, Restart, transitionAt, startMarking, enough, enabled, taken, after, lookedAt, ruleOf}
 use Rattle.firing.specs.Replay.{startState, waited, limited, judgedBy, renewed, fired, play, replay}
 use Rattle.firing.specs.Tokens.{tokensJudged, tokens}
 use Rattle.firing.proofs.Clocks.{tokensOn}
@@ -102,12 +101,9 @@ module _ {a b : Net} (same : SameNet a b) where
   module _ (memory : Memory) where
     pub same-rule : (m : List ℕ) (t u : ℕ) → t < arcsOf a .transitions → ruleOf (arcsOf a) memory m t u ≡ ruleOf (arcsOf b) memory m t u
     unfolding ruleOf
-    same-rule m t u l = go memory
-      where
-        go : (w : Memory) → ruleOf (arcsOf a) w m t u ≡ ruleOf (arcsOf b) w m t u
-        go Intermediate =
-            rw (same-after t l m, same-taken t l m, same-enabled (after (arcsOf b) m t) u, same-enabled (taken (arcsOf b) m t) u) refl
-        go Atomic = rw (same-after t l m, same-enabled (after (arcsOf b) m t) u, same-enabled m u) refl
+    same-rule m t u l =
+        let looked = lookedAt memory m (taken (arcsOf b) m t) in
+        rw (same-after t l m, same-taken t l m, same-enabled (after (arcsOf b) m t) u, same-enabled looked u) refl
 
     pub same-fired : (st : State) (t : ℕ) → t < arcsOf a .transitions → fired a (ruleOf (arcsOf a) memory) st t ≡ fired b (ruleOf (arcsOf b) memory) st t
     unfolding fired renewed

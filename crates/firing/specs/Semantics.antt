@@ -2,7 +2,7 @@
 -- Two points are document 01's: no place may hold more than 255 tokens, and the formula for the clocks reads I(u) where the paper's last line misprints I'(u).
 use Prim.Native.Nat.{ℕ, _+_, _-_, _*_, _≤_, _<_, min}
 use mathlib.Core.Path.{_≡_}
-use mathlib.Core.Bool.{Bool, true, not, cond, _&&_, _||_}
+use mathlib.Core.Bool.{Bool, true, false, not, cond, _&&_, _||_}
 use mathlib.Core.List.{List, [], _∷_}
 use lib.ListN.{getD, replicate}
 use lib.Dec.{leb, ltb, eqb}
@@ -15,7 +15,7 @@ use Rattle.net.specs.declared.Net.{Net}
 use Rattle.net.specs.Net.{noTransition, takesIn, givesIn}
 use Rattle.run.specs.declared.Firing.{Firing}
 use Rattle.run.specs.declared.Memory.{Memory}
-use Rattle.run.specs.declared.Memory.the-variants.{Intermediate, Atomic}
+use Rattle.run.specs.declared.Memory.the-variants.{Intermediate, Atomic, Carry}
 
 -- (P, T, •(.), (.)•): the places, the transitions and the weights
 pub record Arcs : Type 0 where
@@ -63,14 +63,22 @@ after a m t = filled (λ p. getD m p 0 - takes a t p + gives a t p) (a .places) 
 abbrev pub Restart : Type 0
 Restart = List ℕ → ℕ → ℕ → Bool
 
--- the marking that a memory word looks at: under the intermediate policy the one after the taking, under the atomic policy the one before the firing
+-- the marking that a memory word looks at: under the intermediate policy the one after the taking, under the atomic policy and under `carry` the one before
+-- the firing
 abbrev pub lookedAt : Memory → List ℕ → List ℕ → List ℕ
 lookedAt Intermediate before middle = middle
 lookedAt Atomic before middle = before
+lookedAt Carry before middle = before
 
--- the rule of a memory word: u is enabled after the firing, and it was not at the marking looked at, or u is t
+-- whether the fired transition restarts as such; under `carry` (document 02, Q-1, after the opening of document 000) it keeps its clock like any other
+abbrev pub restartsFired : Memory → Bool
+restartsFired Intermediate = true
+restartsFired Atomic = true
+restartsFired Carry = false
+
+-- the rule of a memory word: u is enabled after the firing, and it was not at the marking looked at, or u is t and t restarts as such
 unfoldable pub ruleOf : Arcs → Memory → Restart
-ruleOf a memory m t u = enabled a (after a m t) u && (not (enabled a (lookedAt memory m (taken a m t)) u) || eqb u t)
+ruleOf a memory m t u = enabled a (after a m t) u && (not (enabled a (lookedAt memory m (taken a m t)) u) || (restartsFired memory && eqb u t))
 
 -- a state (M, I); I is of meaning for enabled transitions only
 pub record Timed : Type 0 where

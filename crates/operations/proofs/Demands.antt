@@ -32,7 +32,8 @@ use Rattle.run.proofs.Ranges.{run-in-ranges}
 use Rattle.firing.specs.Semantics.{arcsOf, Restart, Timed, ruleOf, Initial, Allowed}
 use Rattle.firing.specs.Replay.{replay}
 use Rattle.firing.proofs.Accept as accept
-use Rattle.firing.proofs.Accept.{same-end, rule-restarting}
+use Rattle.firing.proofs.Accept.{same-end}
+use Rattle.firing.proofs.Rules.{rule-restarting}
 use Rattle.timing.specs.Schedule.{Scheduled, schedule}
 use Rattle.timing.specs.Rounding.{roundedRun, timetableRun}
 use Rattle.timing.proofs.Timings.{ticks-exactly}

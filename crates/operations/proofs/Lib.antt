@@ -3,5 +3,6 @@ pub mod Causality
 pub mod Demands
 pub mod Lengths
 pub mod Places
+pub mod Requests
 pub mod Same
 pub mod Ends

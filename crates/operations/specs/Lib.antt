@@ -4,6 +4,7 @@ pub mod Operation
 pub mod Outcomes
 pub mod Process
 pub mod Replay
+pub mod Requests
 pub mod Round
 pub mod Starred
 pub mod Timetable

@@ -1,5 +1,5 @@
 -- The starred cases of document 01, "A session on paper": one list, and one check that is computed over all of it. Each case is what an operation over
--- values comes to, the bytes of its answer included. Where 01 names no memory word, the case stands under both.
+-- values comes to, the bytes of its answer included. Where 01 names no memory word, the case stands under all three. Behind them the cases of the change requests.
 use Prim.Native.Nat.{ℕ}
 use mathlib.Core.Path.{_≡_, refl}
 use mathlib.Core.Bool.{Bool, true, false, _&&_}
@@ -22,7 +22,7 @@ use Rattle.net.specs.declared.Latest.the-variants.{Unbounded, Ticks}
 use Rattle.net.specs.declared.Net.{Net}
 use Rattle.net.specs.Net.{Row, noRow, takeOf, giveOf, rowsOf, toNet}
 use Rattle.run.specs.declared.Memory.{Memory}
-use Rattle.run.specs.declared.Memory.the-variants.{Intermediate, Atomic}
+use Rattle.run.specs.declared.Memory.the-variants.{Intermediate, Atomic, Carry}
 use Rattle.run.specs.declared.Run.{Run}
 use Rattle.run.specs.declared.Order.{Order}
 use Rattle.run.specs.Run.{noFiring, firingsOf, firesOf, orderOf, waitsOf}
@@ -70,6 +70,10 @@ giver = netFor (0 ∷ []) (rowFor 0 Unbounded (0 ∷ []) (255 ∷ []) ∷ [])
 twice : Net
 twice = netFor (2 ∷ []) (rowFor 1 (Ticks 2) (1 ∷ []) (1 ∷ []) ∷ [])
 
+-- two transitions that give back the one token they take
+loops : Net
+loops = netFor (1 ∷ []) (rowFor 1 (Ticks 1) (1 ∷ []) (1 ∷ []) ∷ rowFor 2 (Ticks 2) (1 ∷ []) (1 ∷ []) ∷ [])
+
 -- ---- what an operation comes to, and what it should
 pub record Case : Type 0 where
   pub comes-to : Outcome
@@ -104,8 +108,10 @@ starred =
     ++ bytes "wait=1\nfire=0\nwait=1\nfire=0\nwait=3\nfire=1\nrest=0\n")
     ∷ untimed netA Atomic (1 ∷ 0 ∷ []) (NotEnabled 2)
     ∷ untimed netA Intermediate (1 ∷ 0 ∷ []) (NotEnabled 2)
+    ∷ untimed netA Carry (1 ∷ 0 ∷ []) (NotEnabled 2)
     ∷ timed netA Atomic [] (bytes "memory=atomic\ndenominator=1\nfirings=0\nrest=0\n")
     ∷ timed netA Intermediate [] (bytes "memory=intermediate\ndenominator=1\nfirings=0\nrest=0\n")
+    ∷ timed netA Carry [] (bytes "memory=carry\ndenominator=1\nfirings=0\nrest=0\n")
     ∷ accepted netA Atomic 2 (3 ∷ 3 ∷ 0 ∷ []) (0 ∷ 0 ∷ 1 ∷ []) (bytes "end=0,0\nclock=off\nclock=off\n")
     ∷ rounded netA Atomic 2 (3 ∷ 3 ∷ 0 ∷ []) (0 ∷ 0 ∷ 1 ∷ [])
     (bytes "memory=atomic\ndenominator=1\nfirings=3\nwait=1\nfire=0\nwait=2\nfire=0\nwait=0\nfire=1\nrest=0\n")
@@ -113,13 +119,22 @@ starred =
     ∷ timed netB Atomic (0 ∷ 1 ∷ 2 ∷ []) (bytes "memory=atomic\ndenominator=1\nfirings=3\nwait=3\nfire=0\nwait=2\nfire=1\nwait=0\nfire=2\nrest=0\n")
     ∷ timed netB Intermediate (0 ∷ 1 ∷ 2 ∷ [])
     (bytes "memory=intermediate\ndenominator=1\nfirings=3\nwait=3\nfire=0\nwait=2\nfire=1\nwait=0\nfire=2\nrest=0\n")
+    ∷ timed netB Carry (0 ∷ 1 ∷ 2 ∷ []) (bytes "memory=carry\ndenominator=1\nfirings=3\nwait=3\nfire=0\nwait=2\nfire=1\nwait=0\nfire=2\nrest=0\n")
     ∷ accepted giver Atomic 1 (0 ∷ []) (0 ∷ []) (bytes "end=255\nclock=0\n")
     ∷ accepted giver Intermediate 1 (0 ∷ []) (0 ∷ []) (bytes "end=255\nclock=0\n")
+    ∷ accepted giver Carry 1 (0 ∷ []) (0 ∷ []) (bytes "end=255\nclock=0\n")
     ∷ refused giver Atomic 1 (0 ∷ 0 ∷ []) (0 ∷ 0 ∷ []) (TooManyTokens 2)
     ∷ refused giver Intermediate 1 (0 ∷ 0 ∷ []) (0 ∷ 0 ∷ []) (TooManyTokens 2)
+    ∷ refused giver Carry 1 (0 ∷ 0 ∷ []) (0 ∷ 0 ∷ []) (TooManyTokens 2)
     ∷ timed twice Atomic (0 ∷ 0 ∷ []) (bytes "memory=atomic\ndenominator=1\nfirings=2\nwait=1\nfire=0\nwait=1\nfire=0\nrest=0\n")
     ∷ timed twice Intermediate (0 ∷ 0 ∷ []) (bytes "memory=intermediate\ndenominator=1\nfirings=2\nwait=1\nfire=0\nwait=1\nfire=0\nrest=0\n")
     ∷ refused twice Intermediate 1 (2 ∷ 0 ∷ []) (0 ∷ 0 ∷ []) (OutsideInterval 2)
+    ∷ timed netA Carry (0 ∷ 0 ∷ []) (bytes "memory=carry\ndenominator=1\nfirings=2\nwait=1\nfire=0\nwait=0\nfire=0\nrest=0\n")
+    ∷ accepted netA Carry 1 (1 ∷ 0 ∷ 1 ∷ []) (0 ∷ 0 ∷ 0 ∷ []) (bytes "end=1,1\nclock=2\nclock=2\n")
+    ∷ refused netA Carry 1 (1 ∷ 0 ∷ 2 ∷ []) (0 ∷ 0 ∷ 0 ∷ []) (OutsideInterval 3)
+    ∷ untimed loops Carry (0 ∷ 1 ∷ 0 ∷ []) (Untimable 3)
+    ∷ rounded netA Carry 2 (3 ∷ 0 ∷ 1 ∷ []) (0 ∷ 0 ∷ 0 ∷ [])
+    (bytes "memory=carry\ndenominator=1\nfirings=3\nwait=1\nfire=0\nwait=0\nfire=0\nwait=1\nfire=0\nrest=0\n")
     ∷ []
 
 -- ---- the check
@@ -141,7 +156,7 @@ casesHold (c ∷ cs) = sameOutcome (c .comes-to) (c .should) && casesHold cs
 
 -- ---- the combined check
 pub starred-hold : casesHold starred ≡ true
-unfolding rowFor netFor orderFor runFor netA netB giver twice timed untimed accepted refused rounded starred sameBytes sameOutcome casesHold
+unfolding rowFor netFor orderFor runFor netA netB giver twice loops timed untimed accepted refused rounded starred sameBytes sameOutcome casesHold
     filled firstOf allBelow decimal digits width texts linesOf checks itemsText allRanged takeOf giveOf rowsOf firingsOf firesOf orderOf waitsOf
     startMarking enough taken after ruleOf startState waited clockOf timely limited judgedBy renewed fired play replay tokensJudged tokens
     windowsFrom windowsOf instants verdictOf waitsFrom waitsBetween schedule roundedFrom roundedWaits zipFirings lastInstant roundedRun timetableRun clocksText

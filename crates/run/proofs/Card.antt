@@ -1,5 +1,5 @@
--- Run cards and order cards are formats: each of their lines is one, and the count of firings bounds how many follow. Neither memory word
--- begins like the other.
+-- Run cards and order cards are formats: each of their lines is one, and the count of firings bounds how many follow. No memory word
+-- begins like another.
 use Prim.Native.Nat.{ℕ, _+_, _≤_}
 use native.Mathlib.Omega.{arith}
 use mathlib.Core.Path.{_≡_, refl, sym, ap, _∙_}
@@ -13,7 +13,7 @@ use Rattle.reply.specs.declared.Checked.the-variants.{Passed}
 use Rattle.reply.specs.Refusal.{positionOf}
 use Rattle.text.specs.Key.{bytes, beginsWith}
 use Rattle.text.proofs.KeyLaws.{begins-text, begins-take}
-use Rattle.form.specs.Form.{found, refused, times}
+use Rattle.form.specs.Form.{Found, found, refused, times}
 use Rattle.form.specs.Inverse.{WasRead, Placed, Format}
 use Rattle.form.proofs.Found.{not-both, refused-same}
 use Rattle.form.proofs.Combine.{was-same}
@@ -21,49 +21,55 @@ use Rattle.form.proofs.Lines.{word-was}
 use Rattle.form.proofs.Places.{line-placed}
 use Rattle.form.proofs.Format.{keyed-format, pair-format, held-format, times-format, ranged-format, listed-format, counted-format}
 use Rattle.run.specs.declared.Memory.{Memory}
-use Rattle.run.specs.declared.Memory.the-variants.{Intermediate, Atomic}
-use Rattle.run.specs.Run.{memory, fire, toFiring, fromFiring, firing, noFiring, steps, toRun, fromRun, runCard, toOrder, fromOrder, orderCard}
+use Rattle.run.specs.declared.Memory.the-variants.{Intermediate, Atomic, Carry}
+use Rattle.run.specs.Run.{memoryText, memory, fire, toFiring, fromFiring, firing, noFiring, steps, toRun, fromRun, runCard, toOrder, fromOrder, orderCard}
 
 pub memory-back : (m : Memory) (s rest : List ℕ) (at line : ℕ) → memory .check m line ≡ Passed → drop at s ≡ memory .text m ++ rest
     → memory .read s at line ≡ found m (at + length (memory .text m))
 unfolding beginsWith
 memory-back Intermediate s rest at line p e = rw (ap (beginsWith (bytes "intermediate\n")) e ∙ begins-text (bytes "intermediate\n") rest) refl
 memory-back Atomic s rest at line p e =
-    let other : beginsWith (bytes "intermediate\n") (drop at s) ≡ false = ap (beginsWith (bytes "intermediate\n")) e in
-    rw (other, ap (beginsWith (bytes "atomic\n")) e ∙ begins-text (bytes "atomic\n") rest) refl
+    let first : beginsWith (bytes "intermediate\n") (drop at s) ≡ false = ap (beginsWith (bytes "intermediate\n")) e in
+    rw (first, ap (beginsWith (bytes "atomic\n")) e ∙ begins-text (bytes "atomic\n") rest) refl
+memory-back Carry s rest at line p e =
+    let first : beginsWith (bytes "intermediate\n") (drop at s) ≡ false = ap (beginsWith (bytes "intermediate\n")) e in
+    let second : beginsWith (bytes "atomic\n") (drop at s) ≡ false = ap (beginsWith (bytes "atomic\n")) e in
+    rw (first, second, ap (beginsWith (bytes "carry\n")) e ∙ begins-text (bytes "carry\n") rest) refl
 
 module _ (m : Memory) (s : List ℕ) (at next line : ℕ) where
-  atomic-was : (t : Bool) → beginsWith (bytes "atomic\n") (drop at s) ≡ t
-      → cond t (found Atomic (at + length (bytes "atomic\n"))) (refused (Malformed line)) ≡ found m next
-      → WasRead memory m s at next line
-  atomic-was true t e = was-same memory e (word-was memory Atomic s at line refl refl t)
-  atomic-was false t e = absurd (not-both e)
+  -- a word that is tried was read, or what is tried behind it
+  tried : (w : Memory) (later : Found Memory) → (later ≡ found m next → WasRead memory m s at next line)
+      → cond (beginsWith (memoryText w) (drop at s)) (found w (at + length (memoryText w))) later ≡ found m next → WasRead memory m s at next line
+  tried w later h = go (beginsWith (memoryText w) (drop at s)) refl
+    where
+      go : (t : Bool) → beginsWith (memoryText w) (drop at s) ≡ t → cond t (found w (at + length (memoryText w))) later ≡ found m next
+          → WasRead memory m s at next line
+      go true t e = was-same memory e (word-was memory w s at line refl refl t)
+      go false t e = h e
 
   memory-was : memory .read s at line ≡ found m next → WasRead memory m s at next line
-  memory-was = go (beginsWith (bytes "intermediate\n") (drop at s)) refl
-    where
-      go : (t : Bool) → beginsWith (bytes "intermediate\n") (drop at s) ≡ t
-          → cond t (found Intermediate (at + length (bytes "intermediate\n")))
-          (cond (beginsWith (bytes "atomic\n") (drop at s)) (found Atomic (at + length (bytes "atomic\n"))) (refused (Malformed line))) ≡ found m next
-          → WasRead memory m s at next line
-      go true t e = was-same memory e (word-was memory Intermediate s at line refl refl t)
-      go false t e = atomic-was (beginsWith (bytes "atomic\n") (drop at s)) refl e
+  memory-was = tried Intermediate _ (tried Atomic _ (tried Carry _ (λ e. absurd (not-both e))))
 
 memory-short : (m : Memory) → length (memory .text m) ≤ 13
 memory-short Intermediate = omega arith
 memory-short Atomic = omega arith
+memory-short Carry = omega arith
+
+module _ (r : Refusal) (s : List ℕ) (at line : ℕ) where
+  -- where nothing is found, the word that is tried is not there
+  missed : (w : Memory) (later : Found Memory) → (later ≡ refused r → positionOf r ≡ line)
+      → cond (beginsWith (memoryText w) (drop at s)) (found w (at + length (memoryText w))) later ≡ refused r → positionOf r ≡ line
+  missed w later h = go (beginsWith (memoryText w) (drop at s))
+    where
+      go : (t : Bool) → cond t (found w (at + length (memoryText w))) later ≡ refused r → positionOf r ≡ line
+      go true e = absurd (not-both (sym e))
+      go false e = h e
+
+  memory-refused : memory .read s at line ≡ refused r → positionOf r ≡ line
+  memory-refused = missed Intermediate _ (missed Atomic _ (missed Carry _ (λ e. ap positionOf (sym (refused-same {r = Malformed line} e)))))
 
 memory-placed : Placed memory 1
-memory-placed =
-    line-placed (λ r s at line. go r at line (beginsWith (bytes "intermediate\n") (drop at s)) (beginsWith (bytes "atomic\n") (drop at s))) (λ m. refl)
-  where
-    go : (r : Refusal) (at line : ℕ) (t u : Bool)
-        → cond t (found Intermediate (at + length (bytes "intermediate\n")))
-        (cond u (found Atomic (at + length (bytes "atomic\n"))) (refused (Malformed line))) ≡ refused r
-        → positionOf r ≡ line
-    go r at line true u e = absurd (not-both (sym e))
-    go r at line false true e = absurd (not-both (sym e))
-    go r at line false false e = ap positionOf (sym (refused-same e))
+memory-placed = line-placed memory-refused (λ m. refl)
 
 memory-format : {P : Type 0} → Format P memory 13 1
 memory-format =
@@ -73,7 +79,12 @@ memory-format =
       reaches = λ p.
           record {
             near = λ m s at next line e. omega (arith, memory-was m s at next line e .end, memory-short m);
-            prefix = λ s k at line h. rw (begins-take (bytes "intermediate\n") s k at (omega arith), begins-take (bytes "atomic\n") s k at (omega arith)) refl;
+            prefix = λ s k at line h.
+                rw (
+                  begins-take (bytes "intermediate\n") s k at (omega arith),
+                  begins-take (bytes "atomic\n") s k at (omega arith),
+                  begins-take (bytes "carry\n") s k at (omega arith),
+                ) refl;
           };
       placed = λ p. memory-placed;
     }

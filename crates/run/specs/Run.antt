@@ -10,7 +10,7 @@ use Rattle.text.specs.Key.{bytes, beginsWith}
 use Rattle.form.specs.Form.{found, refused, Form, keyed, chain, times, held}
 use Rattle.form.specs.Line.{ranged, listed, number}
 use Rattle.run.specs.declared.Memory.{Memory}
-use Rattle.run.specs.declared.Memory.the-variants.{Intermediate, Atomic}
+use Rattle.run.specs.declared.Memory.the-variants.{Intermediate, Atomic, Carry}
 use Rattle.run.specs.declared.Firing.{Firing}
 use Rattle.run.specs.declared.Run.{Run}
 use Rattle.run.specs.declared.Order.{Order}
@@ -19,6 +19,7 @@ use Rattle.run.specs.declared.Order.{Order}
 abbrev pub memoryText : Memory → List ℕ
 memoryText Intermediate = bytes "intermediate\n"
 memoryText Atomic = bytes "atomic\n"
+memoryText Carry = bytes "carry\n"
 
 abbrev pub memory : Form Memory
 memory =
@@ -28,7 +29,8 @@ memory =
       check = λ m line. Passed;
       read = λ s at line.
           cond (beginsWith (bytes "intermediate\n") (drop at s)) (found Intermediate (at + length (bytes "intermediate\n")))
-          (cond (beginsWith (bytes "atomic\n") (drop at s)) (found Atomic (at + length (bytes "atomic\n"))) (refused (Malformed line)));
+          (cond (beginsWith (bytes "atomic\n") (drop at s)) (found Atomic (at + length (bytes "atomic\n")))
+          (cond (beginsWith (bytes "carry\n") (drop at s)) (found Carry (at + length (bytes "carry\n"))) (refused (Malformed line))));
       clean = λ m. m;
     }
 

@@ -4,6 +4,7 @@
 pub enum Memory {
     Intermediate,
     Atomic,
+    Carry,
 }
 
 // A firing of a run: the wait before it in parts of a tick, and the transition's number.

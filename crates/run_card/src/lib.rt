@@ -68,6 +68,12 @@ fn memory_at(s: &[u8], at: usize, line: usize) -> MemoryLine
             next: at + 7,
         };
     }
+    if text::begins_at(s, at, b"carry\n") {
+        return MemoryLine::Value {
+            memory: Memory::Carry,
+            next: at + 6,
+        };
+    }
     MemoryLine::Refused(Refusal::Malformed(line))
 }
 
@@ -364,6 +370,7 @@ fn put_memory_line(out: &mut [u8], at: usize, m: Memory) -> usize
     match m {
         Memory::Intermediate => text::put_bytes(out, to, b"intermediate\n"),
         Memory::Atomic => text::put_bytes(out, to, b"atomic\n"),
+        Memory::Carry => text::put_bytes(out, to, b"carry\n"),
     }
 }
 

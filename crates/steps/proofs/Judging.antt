@@ -10,7 +10,7 @@ use Rattle.reply.specs.declared.Refusal.{Refusal}
 use Rattle.reply.specs.declared.Refusal.the-variants.{NotEnabled, OutsideInterval, TooManyTokens}
 use Rattle.reply.specs.declared.Checked.the-variants.{Passed, Refused}
 use Rattle.firing.specs.declared.Attempt.{Attempt}
-use Rattle.firing.specs.Semantics.{Arcs, enabled, lookedAt, ruleOf}
+use Rattle.firing.specs.Semantics.{Arcs, enabled, lookedAt, restartsFired, ruleOf}
 use Rattle.firing.specs.Replay.{timely, judgedBy}
 use Rattle.firing.specs.Step.{Stepped, stepped}
 use Rattle.firing.proofs.Clocks.{enabled-listed}
@@ -78,7 +78,7 @@ module _ (q : Asked) {fire : Fire} (k : fire ≡ fireIn (q .terms) (q .f)) where
       says-over o = rw (enabled-is e, l, sym (moves .within) ∙ o) refl
 
       pub says-fired : r .within ≡ true → {looked next : List ℕ} → looked ≡ lookedAt (q .terms .memory) (q .m) (r .middle)
-          → next ≡ renewedBy (arcsBy fire (q .take) (q .give)) looked (r .later) (fire .t) (fire .instant) (q .since)
+          → next ≡ renewedBy (arcsBy fire (q .take) (q .give)) (restartsFired (fire .memory)) looked (r .later) (fire .t) (fire .instant) (q .since)
           → says (record { checked = Passed; marking = r .later; since = next })
       unfolding stepped judgedBy
       says-fired o {looked} {next} see new =

@@ -4,7 +4,7 @@
 use Prim.Native.Nat.{ℕ, _+_, _-_, _≤_, _<_}
 use native.Mathlib.Omega.{arith}
 use mathlib.Core.Path.{_≡_, refl, sym, ap, _∙_}
-use mathlib.Core.Bool.{Bool, true, false, not, cond, _&&_, _||_, or-true, or-false, and-false, and-comm}
+use mathlib.Core.Bool.{Bool, true, false, not, cond, _&&_, _||_, or-true, or-false, and-false, and-comm, and-eq-true-iff}
 use mathlib.Core.List.{List}
 use lib.Dec.{leb, ltb, eqb}
 use lib.ListN.{length, getD, set, replicate, getD-replicate}
@@ -12,8 +12,8 @@ use borrow.Author.Tests.{leb-true, leb-false, lt-ltb, le-ltb, le-leb, eq-eqb, ne
 use Rattle.laws.specs.Tests.{all-same, anyBelow, any-start, any-more, any-none}
 use Rattle.laws.specs.Arrays.{filled, length-filled, filled-at, filled-same, filled-idle, filled-set, filled-most, filled-least}
 use Rattle.run.specs.declared.Memory.{Memory}
-use Rattle.run.specs.declared.Memory.the-variants.{Intermediate, Atomic}
-use Rattle.firing.specs.Semantics.{Arcs, takes, gives, enough, taken, after, lookedAt, ruleOf}
+use Rattle.run.specs.declared.Memory.the-variants.{Intermediate, Atomic, Carry}
+use Rattle.firing.specs.Semantics.{Arcs, takes, gives, enough, taken, after, lookedAt, restartsFired, ruleOf}
 use Rattle.firing.specs.Replay.{renewed}
 use Rattle.steps.specs.Code.{shortAt, short, restarted, renewedBy}
 use Rattle.steps.proofs.Places.{hasEnough, enough-at}
@@ -76,36 +76,49 @@ module _ (a : Arcs) (later : List ℕ) (instant : ℕ) (since : List ℕ) where
       sym (filled-idle (λ u. cond (getD marks u false && enough (a .take) (a .places) later u) instant (getD since u 0)) since 0 (a .transitions)
       (λ k b. rw (any-none (λ u. getD marks u false) 32 e k (omega arith)) refl))
 
-  module _ (looked : List ℕ) (t : ℕ) (inside : t < a .transitions) (marks : List Bool)
+  module _ (again : Bool) (looked : List ℕ) (t : ℕ) (inside : t < a .transitions) (marks : List Bool)
       (told : (u : ℕ) → u < a .transitions → getD marks u false ≡ short a looked t u) {next : List ℕ} (e : next ≡ restarted a later marks instant since) where
     -- the instant of a transition when the marked have restarted, and what is wanted
     abbrev by-marks : ℕ → ℕ
     by-marks u = cond (getD marks u false && enough (a .take) (a .places) later u) instant (getD since u 0)
 
     abbrev wanted : ℕ → ℕ
-    wanted u = cond (enough (a .take) (a .places) later u && (short a looked t u || eqb u t)) instant (getD since u 0)
+    wanted u = cond (enough (a .take) (a .places) later u && (short a looked t u || (again && eqb u t))) instant (getD since u 0)
 
-    -- they agree at every transition other than t
-    other : (u : ℕ) → u < a .transitions → (u ≡ t → ⊥) → by-marks u ≡ wanted u
+    -- they agree at every transition that is not t, and at t if it does not restart as such
+    other : (u : ℕ) → u < a .transitions → (again && eqb u t) ≡ false → by-marks u ≡ wanted u
     other u l n =
-        rw (told u l, ne-eqb u t n, or-false (short a looked t u))
+        rw (told u l, n, or-false (short a looked t u))
         (ap (λ (b : Bool). cond b instant (getD since u 0)) (and-comm (short a looked t u) (enough (a .take) (a .places) later u)))
 
-    -- t is enabled after the firing
-    pub renewed-set : enough (a .take) (a .places) later t ≡ true → set next t instant ≡ renewedBy a looked later t instant since
+    -- t restarts as such, and it is enabled after the firing
+    renewed-set : (again && enough (a .take) (a .places) later t) ≡ true → set next t instant ≡ renewedBy a again looked later t instant since
     unfolding restarted renewedBy
     renewed-set h =
-        let w : instant ≡ wanted t = rw (h, eq-eqb t t refl, or-true (short a looked t t)) refl in
-        rw e (ap (set (filled by-marks (a .transitions) since) t) w ∙ filled-set by-marks wanted since 0 (a .transitions) t inside other)
+        let both = and-eq-true-iff again (enough (a .take) (a .places) later t) .0 h in
+        let w : instant ≡ wanted t = rw (both .0, both .1, eq-eqb t t refl, or-true (short a looked t t)) refl in
+        rw e
+        (ap (set (filled by-marks (a .transitions) since) t) w
+        ∙ filled-set by-marks wanted since 0 (a .transitions) t inside (λ u l n. other u l (rw (ne-eqb u t n) (and-false again))))
 
-    -- t is not
-    pub renewed-kept : enough (a .take) (a .places) later t ≡ false → next ≡ renewedBy a looked later t instant since
+    -- it does not, or it is not
+    renewed-kept : (again && enough (a .take) (a .places) later t) ≡ false → next ≡ renewedBy a again looked later t instant since
     unfolding restarted renewedBy
-    renewed-kept h = e ∙ filled-same by-marks wanted since (a .transitions) (λ u l. go u l (eqb u t) refl)
+    renewed-kept h = e ∙ filled-same by-marks wanted since (a .transitions) (λ u l. go u l (again && eqb u t) refl)
       where
-        go : (u : ℕ) → u < a .transitions → (b : Bool) → eqb u t ≡ b → by-marks u ≡ wanted u
-        go u l true q = let z = eqb-true u t q in rw (z, h, and-false (getD marks t false)) refl
-        go u l false q = other u l (eqb-false u t q)
+        go : (u : ℕ) → u < a .transitions → (b : Bool) → (again && eqb u t) ≡ b → by-marks u ≡ wanted u
+        go u l true q =
+            let both = and-eq-true-iff again (eqb u t) .0 q in
+            let z = eqb-true u t (both .1) in
+            let off : enough (a .take) (a .places) later t ≡ false = rw (both .0) at h in
+            rw (z, off, and-false (getD marks t false)) refl
+        go u l false q = other u l q
+
+    -- so in either case
+    pub renewed-by : (b : Bool) → (again && enough (a .take) (a .places) later t) ≡ b
+        → cond b (set next t instant) next ≡ renewedBy a again looked later t instant since
+    renewed-by true h = renewed-set h
+    renewed-by false h = renewed-kept h
 
 -- ---- the marks are the restarts
 -- what is not below is at least as large
@@ -139,29 +152,34 @@ module _ (a : Arcs) (memory : Memory) (m : List ℕ) (t : ℕ) where
   abbrev stands : ℕ → Bool
   stands u = enough (a .take) (a .places) (after a m t) u
 
+  -- whether u restarts as the fired transition
+  abbrev again : ℕ → Bool
+  again u = restartsFired memory && eqb u t
+
   left-below : (w : Memory) (p : ℕ) → p < a .places → getD m p 0 - takes a t p ≤ getD (lookedAt w m (taken a m t)) p 0
   unfolding taken
   left-below Intermediate p l = filled-least (λ k. getD m k 0 - takes a t k) m (a .places) p l (omega arith)
   left-below Atomic p l = omega arith
+  left-below Carry p l = omega arith
 
   after-below : (p : ℕ) → p < a .places → getD (after a m t) p 0 ≤ getD looked p 0 + gives a t p
   unfolding after
   after-below p l = omega (arith, filled-most (λ k. getD m k 0 - takes a t k + gives a t k) m (a .places) p l, left-below memory p l)
 
-  restart-is : (u : ℕ) → u < a .transitions → (stands u && (short a looked t u || eqb u t)) ≡ ruleOf a memory m t u
+  restart-is : (u : ℕ) → u < a .transitions → (stands u && (short a looked t u || again u)) ≡ ruleOf a memory m t u
   unfolding ruleOf
   restart-is u l = rw (lt-ltb u (a .transitions) l) (go (stands u) refl)
     where
       go : (b : Bool) → stands u ≡ b
-          → (b && (short a looked t u || eqb u t)) ≡ (b && (not (enough (a .take) (a .places) looked u) || eqb u t))
+          → (b && (short a looked t u || again u)) ≡ (b && (not (enough (a .take) (a .places) looked u) || again u))
       go false e = refl
       go true e = rw (short-same a t looked (after a m t) u after-below e) refl
 
   -- so the code's restarts are those of the word's rule
   pub renewed-is : (since : List ℕ) (instant : ℕ)
-      → renewedBy a looked (after a m t) t instant since ≡ renewed a (ruleOf a memory) m since t instant
+      → renewedBy a (restartsFired memory) looked (after a m t) t instant since ≡ renewed a (ruleOf a memory) m since t instant
   unfolding renewedBy renewed
   renewed-is since instant =
-      filled-same (λ u. cond (stands u && (short a looked t u || eqb u t)) instant (getD since u 0))
+      filled-same (λ u. cond (stands u && (short a looked t u || again u)) instant (getD since u 0))
       (λ u. cond (ruleOf a memory m t u) instant (getD since u 0)) since (a .transitions)
       (λ u l. ap (λ (b : Bool). cond b instant (getD since u 0)) (restart-is u l))

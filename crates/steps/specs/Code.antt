@@ -18,9 +18,9 @@ use Rattle.steps.specs.declared.Moved.{Moved}
 abbrev pub arcsIn : Terms → List ℕ → List ℕ → Arcs
 arcsIn terms take give = record { places = min (terms .places) 16; transitions = min (terms .transitions) 32; take = take; give = give }
 
--- the firing of an attempt, with the same counts
+-- the firing of an attempt, with the same counts and the memory word of the terms
 abbrev pub fireIn : Terms → Attempt → Fire
-fireIn terms f = record { places = min (terms .places) 16; transitions = min (terms .transitions) 32; t = f .t; instant = f .instant }
+fireIn terms f = record { places = min (terms .places) 16; transitions = min (terms .transitions) 32; memory = terms .memory; t = f .t; instant = f .instant }
 
 -- the net of a firing
 abbrev pub arcsBy : Fire → List ℕ → List ℕ → Arcs
@@ -50,7 +50,7 @@ unfoldable pub restarted : Arcs → List ℕ → List Bool → ℕ → List ℕ 
 restarted a later marks instant since =
     filled (λ u. cond (getD marks u false && enough (a .take) (a .places) later u) instant (getD since u 0)) (a .transitions) since
 
--- the same, when those that were short somewhere and t have
-unfoldable pub renewedBy : Arcs → List ℕ → List ℕ → ℕ → ℕ → List ℕ → List ℕ
-renewedBy a looked later t instant since =
-    filled (λ u. cond (enough (a .take) (a .places) later u && (short a looked t u || eqb u t)) instant (getD since u 0)) (a .transitions) since
+-- the same, when those that were short somewhere have and, if the fired one restarts as such, t
+unfoldable pub renewedBy : Arcs → Bool → List ℕ → List ℕ → ℕ → ℕ → List ℕ → List ℕ
+renewedBy a again looked later t instant since =
+    filled (λ u. cond (enough (a .take) (a .places) later u && (short a looked t u || (again && eqb u t))) instant (getD since u 0)) (a .transitions) since

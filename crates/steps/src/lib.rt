@@ -19,7 +19,7 @@ ghost use Rattle.laws.specs.Tests.{anyBelow};
 ghost use Rattle.laws.specs.Arrays.{filled};
 ghost use Rattle.net.specs.Net.{takesIn};
 ghost use Rattle.run.specs.Run.{firingsOf};
-ghost use Rattle.firing.specs.Semantics.{arcsOf, enough, enabled, lookedAt, ruleOf};
+ghost use Rattle.firing.specs.Semantics.{arcsOf, enough, enabled, lookedAt, restartsFired, ruleOf};
 ghost use Rattle.firing.specs.Replay.{timely, startState, play};
 ghost use Rattle.firing.specs.Step.{stepped};
 ghost use Rattle.steps.specs.Code.{arcsIn, fireIn, arcsBy, Counted, Moves, short, restarted, renewedBy};
@@ -32,10 +32,11 @@ pub struct Terms {
     pub denominator: u32,
 }
 
-// A firing of t at an instant, in a net with so many places and transitions.
+// A firing of t at an instant under a memory word, in a net with so many places and transitions.
 struct Fire {
     places: usize,
     transitions: usize,
+    memory: Memory,
     t: usize,
     instant: u64,
 }
@@ -64,9 +65,11 @@ pub fn least(a: usize, b: usize) -> usize
 fn clipped(terms: Terms, f: Attempt) -> Fire
     ensures { λ r. ⌜ r ≡ fireIn terms f ⌝ }
 {
+    let memory = terms.memory;
     Fire {
         places: least(terms.places, 16),
         transitions: least(terms.transitions, 32),
+        memory,
         t: f.t,
         instant: f.instant,
     }
@@ -185,6 +188,18 @@ fn looked_at(memory: Memory, before: [u8; 16], middle: [u8; 16]) -> [u8; 16]
     match memory {
         Memory::Intermediate => middle,
         Memory::Atomic => before,
+        Memory::Carry => before,
+    }
+}
+
+// Whether the fired transition restarts under the memory word, if it is still enabled.
+fn restarts_fired(memory: Memory) -> bool
+    ensures { λ r. ⌜ r ≡ restartsFired memory ⌝ }
+{
+    match memory {
+        Memory::Intermediate => true,
+        Memory::Atomic => true,
+        Memory::Carry => false,
     }
 }
 
@@ -259,7 +274,7 @@ fn restart_marked<'a>(
     }
 }
 
-// The restarts of a firing of t: of those transitions that are enabled after it, the ones that were short where the memory word looks, and t.
+// The restarts of a firing of t: of those transitions that are enabled after it, the ones that were short where the memory word looks, and t if the word says so.
 fn renew<'a>(
     take: &'a [u8; 512],
     give: &'a [u8; 512],
@@ -270,15 +285,16 @@ fn renew<'a>(
 )
     requires { ⌜ Counted fire × (fire .t < fire .transitions) ⌝ }
     ensures { λ r. ⌜ now (since .exit)
-        ≡ renewedBy (arcsBy fire (now (take .entry)) (now (give .entry))) (now (looked .entry)) (now (later .entry)) (fire .t) (fire .instant)
-        (now (since .entry)) ⌝ }
+        ≡ renewedBy (arcsBy fire (now (take .entry)) (now (give .entry))) (restartsFired (fire .memory)) (now (looked .entry)) (now (later .entry)) (fire .t)
+        (fire .instant) (now (since .entry)) ⌝ }
 {
     let t = fire.t;
     let marks = short_marks(take, give, looked, fire);
     if any_marked(&marks) {
         restart_marked(take, later, &marks, fire, &mut *since);
     }
-    if has_enough(take, later, fire.places, t) {
+    let memory = fire.memory;
+    if restarts_fired(memory) & has_enough(take, later, fire.places, t) {
         since[t] = fire.instant;
     }
 }

@@ -17,5 +17,6 @@ pub mod Scheduled
 pub mod Markings
 pub mod Rounded
 pub mod RoundedClocks
+pub mod RunClocks
 pub mod Places
 pub mod Same

@@ -46,7 +46,7 @@ module _ (net : Net) (restarts : Restart) where
   course-now (t ∷ order) st (suc i) l = omega (arith, course-now order (fired net restarts (waited st 1) t) i (le-of-suc-le-suc l))
 
   -- the window of a firing is measured from where the state before it says
-  origin-course : (order : List ℕ) (st : State) (i : ℕ) → i < length order
+  pub origin-course : (order : List ℕ) (st : State) (i : ℕ) → i < length order
       → windows (windowsFrom net restarts order st) i .origin ≡ getD (course (take i order) st .since) (getD order i 0) 0
   unfolding course windowsFrom
   origin-course [] st i l = absurd (not-suc-le-zero l)
@@ -55,7 +55,7 @@ module _ (net : Net) (restarts : Restart) where
 
   module _ (order : List ℕ) where
     -- each transition restarted last where order, markings and rule say
-    since-last : (i u : ℕ) → i ≤ length order → u < arcsOf net .transitions
+    pub since-last : (i u : ℕ) → i ≤ length order → u < arcsOf net .transitions
         → getD (course (take i order) (startState net) .since) u 0 ≡ lastRestart net restarts order i u
     unfolding course lastRestart startState waited
     since-last zero u l b = start-since net u

@@ -22,7 +22,8 @@ use Rattle.run.proofs.Ranges.{FiringFits, run-in-ranges, order-in-ranges}
 use Rattle.run.proofs.Same.{run-clean}
 use Rattle.firing.specs.Semantics.{arcsOf, Restart, transitionAt, Timed, ruleOf, Allowed}
 use Rattle.firing.specs.Replay.{startState, play, replay}
-use Rattle.firing.proofs.Accept.{played-exactly, rule-restarting}
+use Rattle.firing.proofs.Accept.{played-exactly}
+use Rattle.firing.proofs.Rules.{rule-restarting}
 use Rattle.firing.proofs.Places.{length-firings}
 use Rattle.timing.specs.Windows.{instants, Timing}
 use Rattle.timing.specs.Schedule.{timed, schedule, roundedFrom, roundedWaits}

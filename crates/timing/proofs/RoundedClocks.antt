@@ -1,80 +1,27 @@
 -- Document 01: "Each clock and each instant moves by less than one tick." A run and its rounded run restart each clock at the same firing, whose instant
 -- is rounded down; and so is the instant at which the clock is read. For any restart rule.
 use Prim.Native.Nat.{ℕ, zero, suc, _+_, _*_, _/_, _<_}
-use native.Mathlib.Nat.{zero-add, add-suc, suc-add, add-zero}
 use native.Mathlib.Omega.{arith}
 use mathlib.Core.Path.{_≡_, sym, ap, _∙_}
-use mathlib.Core.List.{List, [], _∷_}
+use mathlib.Core.List.{List}
 use lib.ListN.{length, getD, take}
-use lib.Seq.{length-take-le, take-all, take-length}
+use lib.Seq.{take-all, take-length}
 use Rattle.laws.specs.Division.{whole-near, difference-near}
 use Rattle.reply.specs.declared.Checked.the-variants.{Passed}
 use Rattle.net.specs.declared.Net.{Net}
 use Rattle.run.specs.declared.Firing.{Firing}
 use Rattle.run.specs.declared.Run.{Run}
-use Rattle.run.specs.Run.{firingsOf, orderOf, waitsOf}
+use Rattle.run.specs.Run.{firingsOf, waitsOf}
 use Rattle.firing.specs.declared.State.{State}
 use Rattle.firing.specs.Semantics.{Restart}
-use Rattle.firing.specs.Replay.{startState, waited, clockOf, fired, judged, play, replay}
-use Rattle.firing.proofs.Clocks.{Sound, sound-waited, sound-fired}
+use Rattle.firing.specs.Replay.{startState, waited, clockOf, play, replay}
+use Rattle.firing.proofs.Clocks.{Sound, sound-waited}
 use Rattle.firing.proofs.Agree.{play-sound}
 use Rattle.firing.proofs.Accept.{start-sound}
 use Rattle.timing.specs.Windows.{instants}
-use Rattle.timing.specs.Rounding.{lastInstant, endInstant, roundedRun}
-use Rattle.timing.proofs.Meet.{Along, Follows, along-fired, step-passed, follows, start-along}
-use Rattle.timing.proofs.Instants.{instants-next}
-use Rattle.timing.proofs.Markings.{order-prefix, play-prefix}
-use Rattle.timing.proofs.Origins.{course}
+use Rattle.timing.specs.Rounding.{endInstant, roundedRun}
+use Rattle.timing.proofs.RunClocks.{behind, prefix-along, next-instant, end-instant}
 use Rattle.timing.proofs.Rounded.{rounded-order, rounded-count, rounded-instant, rounded-end, rounded-accepted}
-
--- ---- a run that passes goes along with its order
-follows-prefix : (S : ℕ → ℕ) (k i : ℕ) (fs : List Firing) → Follows S k fs → Follows S k (take i fs)
-follows-prefix S k zero fs h = tt
-follows-prefix S k (suc i) [] h = tt
-follows-prefix S k (suc i) (f ∷ fs) h = (h .0, follows-prefix S (suc k) i fs (h .1))
-
-module _ (net : Net) (restarts : Restart) (D : ℕ) where
-  play-along : (S : ℕ → ℕ) (fs : List Firing) (k n : ℕ) (st from : State) → Sound st → Sound from → Along S k st from → Follows S k fs
-      → play net restarts D fs st n .checked ≡ Passed
-      → Along S (k + length fs) (play net restarts D fs st n .state) (course net restarts (orderOf fs) from)
-  unfolding play course orderOf
-  play-along S [] k n st from h hf a g e = rw (add-zero k) a
-  play-along S (f ∷ fs) k n st from h hf a g e =
-      let w = waited st (f .wait) in
-      let next = fired net restarts w (f .fire) in
-      let p = step-passed (judged net D w (f .fire) (n + 1)) st (play net restarts D fs next (n + 1)) e in
-      rw (p .0, add-suc k (length fs), ← suc-add k (length fs))
-      (play-along S fs (suc k) (n + 1) next (fired net restarts (waited from 1) (f .fire))
-      (sound-fired net restarts w (f .fire) (sound-waited st (f .wait) h))
-      (sound-fired net restarts (waited from 1) (f .fire) (sound-waited from 1 hf))
-      (along-fired net restarts D S k st from a h (f .wait) (f .fire) (g .0) hf) (g .1) (p .1))
-
-  -- the state behind firings, from the start
-  abbrev behind : List Firing → State
-  behind fs = play net restarts D fs (startState net) 0 .state
-
-  prefix-along : (fs : List Firing) → play net restarts D fs (startState net) 0 .checked ≡ Passed → (i : ℕ)
-      → Along (instants (waitsOf fs)) (length (take i fs)) (behind (take i fs)) (course net restarts (take i (orderOf fs)) (startState net))
-  prefix-along fs e i =
-      let S = instants (waitsOf fs) in
-      let g = follows-prefix S 0 i fs (follows fs S 0 0 (λ j. ap S (zero-add j) ∙ sym (zero-add (S j)))) in
-      rw (zero-add (length (take i fs)), order-prefix i fs) at
-      (play-along S (take i fs) 0 0 (startState net) (startState net) (start-sound net) (start-sound net) (start-along net restarts D fs) g
-      (play-prefix net restarts D i fs (startState net) 0 e))
-
-  module _ (fs : List Firing) (e : play net restarts D fs (startState net) 0 .checked ≡ Passed) where
-    -- firing i + 1 is at instant number i + 1, and so is the last at the last
-    next-instant : (i : ℕ) → i < length fs → waited (behind (take i fs)) (getD (waitsOf fs) i 0) .now ≡ instants (waitsOf fs) (suc i)
-    unfolding waited
-    next-instant i l = rw (prefix-along fs e i .at-instant, length-take-le i fs (omega arith)) (sym (instants-next (waitsOf fs) i))
-
-    last-instant : behind fs .now ≡ instants (waitsOf fs) (length fs)
-    last-instant = rw (take-length fs) at (prefix-along fs e (length fs) .at-instant)
-
--- an accepted run ends at its end
-end-instant : (net : Net) (restarts : Restart) (r : Run) → replay net restarts r .checked ≡ Passed → replay net restarts r .state .now ≡ endInstant r
-unfolding replay waited endInstant lastInstant
-end-instant net restarts r e = ap (λ (s : ℕ). s + r .rest) (last-instant net restarts (r .denominator) (firingsOf r) e)
 
 -- ---- c ticks and x parts, D to the tick, are less than a tick apart
 abbrev Near : ℕ → ℕ → ℕ → Type 0

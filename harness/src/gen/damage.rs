@@ -54,7 +54,7 @@ const NUMBERS: [&str; 32] = [
     "1e3",
 ];
 
-const WORDS: [&str; 24] = [
+const WORDS: [&str; 29] = [
     "inf",
     "INF",
     "in",
@@ -67,6 +67,10 @@ const WORDS: [&str; 24] = [
     "intermediate",
     "intermediat",
     "carry",
+    "Carry",
+    "carr",
+    "carryx",
+    "carry ",
     "none",
     "off",
     "=",
@@ -74,6 +78,7 @@ const WORDS: [&str; 24] = [
     "places=1",
     "start=0",
     "memory=atomic",
+    "memory=carry",
     "rest=0",
     "wait=0",
     "fire=0",

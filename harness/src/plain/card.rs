@@ -20,6 +20,7 @@ pub type Tokens = [u8; PLACES];
 pub enum Memory {
     Intermediate,
     Atomic,
+    Carry,
 }
 
 #[derive(Clone, Copy)]
@@ -220,6 +221,8 @@ impl<'a> Lines<'a> {
             (Memory::Intermediate, rest)
         } else if let Some(rest) = text.strip_prefix(b"atomic\n") {
             (Memory::Atomic, rest)
+        } else if let Some(rest) = text.strip_prefix(b"carry\n") {
+            (Memory::Carry, rest)
         } else {
             return Err(refused(1, self.line));
         };

@@ -61,12 +61,13 @@ impl<'n> State<'n> {
             return false;
         }
         let lasting = match self.memory {
-            Memory::Intermediate => self.net.enabled(&middle),
-            Memory::Atomic => self.enabled,
+            Memory::Intermediate => self.net.enabled(&middle) & !(1 << fired),
+            Memory::Atomic => self.enabled & !(1 << fired),
+            Memory::Carry => self.enabled,
         };
         self.marking = after;
         self.enabled = self.net.enabled(&after);
-        let mut restarted = self.enabled & (!lasting | (1 << fired));
+        let mut restarted = self.enabled & !lasting;
         while restarted != 0 {
             self.since[restarted.trailing_zeros() as usize] = stamp;
             restarted &= restarted - 1;

@@ -218,6 +218,7 @@ fn run_head(text: &mut Text<RUN_LONGEST>, memory: Memory, firings: usize) {
     match memory {
         Memory::Intermediate => text.push(b"memory=intermediate\ndenominator=1\nfirings="),
         Memory::Atomic => text.push(b"memory=atomic\ndenominator=1\nfirings="),
+        Memory::Carry => text.push(b"memory=carry\ndenominator=1\nfirings="),
     }
     text.number(firings as u32, b'\n');
 }

@@ -1,10 +1,12 @@
--- Those that are marked have restarted, if there are any; and t.
+-- Those that are marked have restarted, if there are any; and t, if the word says so.
 use mathlib.Core.Path.{_≡_, sym, _∙_}
+use mathlib.Core.Bool.{Bool, true, false, cond, _&&_}
 use mathlib.Core.Logic.{⊎-elim}
+use lib.ListN.{set}
 use borrow.Author.Needs.{needs}
-use Rattle.firing.specs.Semantics.{Arcs}
-use Rattle.steps.specs.Code.{arcsBy, restarted}
-use Rattle.steps.proofs.Restarts.{restarted-none, renewed-set, renewed-kept}
+use Rattle.firing.specs.Semantics.{Arcs, restartsFired}
+use Rattle.steps.specs.Code.{arcsBy, restarted, renewedBy}
+use Rattle.steps.proofs.Restarts.{restarted-none, renewed-by}
 use Rattle.steps.proofs.renew.Statement.{statement}
 use Rattle.steps.proofs.renew.Tie as tie
 
@@ -26,31 +28,33 @@ marked c =
     (b .short-marks .result) (sym (c .before .any-marked .ensures) ∙ v .0 .left))
     (c .if1 .came)
 
-returns : tie.Need-returns
-returns c =
+-- and t with them, if the word restarts it and it has enough
+restarts : (c : tie.After-has-enough) (b : Bool) → (c .before .restarts-fired .result && c .has-enough .result) ≡ b
+    → let j = c .before .before in let s = j .before .before .before .before in let a = s .args in
+    cond b (set (j .if1 .since) (a .fire .t) (a .fire .instant)) (j .if1 .since)
+    ≡ renewedBy (net s) (restartsFired (a .fire .memory)) (a .looked .now) (a .later .now) (a .fire .t) (a .fire .instant) (a .since .now)
+restarts c b told =
     let j = c .before .before in
-    let b = j .before .before .before in
-    let s = b .before in
+    let k = j .before .before .before in
+    let s = k .before in
     let a = s .args in
-    renewed-set (net s) (a .later .now) (a .fire .instant) (a .since .now) (a .looked .now) (a .fire .t) (s .pre .1) (b .short-marks .result)
-    (b .short-marks .ensures)
+    renewed-by (net s) (a .later .now) (a .fire .instant) (a .since .now) (restartsFired (a .fire .memory)) (a .looked .now) (a .fire .t) (s .pre .1)
+    (k .short-marks .result)
+    (k .short-marks .ensures)
     (marked j)
-    (sym (c .before .has-enough .ensures) ∙ c .if2 .taken)
+    b
+    (rw (← c .before .restarts-fired .ensures, ← c .has-enough .ensures) told)
+
+returns : tie.Need-returns
+returns c = restarts (c .before) true (c .if2 .taken)
 
 returns-2 : tie.Need-returns-2
-returns-2 c =
-    let j = c .before .before in
-    let b = j .before .before .before in
-    let s = b .before in
-    let a = s .args in
-    renewed-kept (net s) (a .later .now) (a .fire .instant) (a .since .now) (a .looked .now) (a .fire .t) (s .pre .1) (b .short-marks .result)
-    (b .short-marks .ensures)
-    (marked j)
-    (sym (c .before .has-enough .ensures) ∙ c .if2 .left)
+returns-2 c = restarts (c .before) false (c .if2 .left)
 
 pub renew-spec : {M : Type 1} → statement M
 renew-spec =
     tie.close
-    (tie.spec (λ c κs. search needs) (λ c κs. search needs) (λ c κs. search needs) (λ c κs. search needs) (λ c. search needs) (λ c. search needs)
+    (tie.spec (λ c κs. search needs) (λ c κs. search needs) (λ c κs. search needs) (λ c κs. search needs) (λ c κs. search needs) (λ c. search needs)
+    (λ c. search needs)
     returns
     returns-2)
