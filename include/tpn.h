@@ -1,7 +1,8 @@
-/* Timed runs of weak time Petri nets: the four operations on cards.
+/* Timed runs of weak time Petri nets: the five operations on cards.
  *
- * Each reads a net card and, right behind it, a run card (tpn_timetable: an order card) from input, and writes its answer to the front of output.
- * The line `memory` of the second card is one of the words intermediate, atomic and carry.
+ * Each reads a net card and, right behind it, a run card (tpn_timetable: an order card; tpn_rank: two run cards, X's and then Y's) from input, and
+ * writes its answer to the front of output.
+ * The line `memory` of a run or order card is one of the words intermediate, atomic and carry.
  * A result from 0 up is the number of bytes written; the bytes of output behind them stay as they were.
  * A negative result is a refusal, -(number * 65536 + place), and no byte of output is altered.
  * Nothing is asked of the input. The pointers must not be null, also where a length is 0, and output must not overlap input.
@@ -21,8 +22,9 @@ extern "C" {
 #define TPN_ROUND_MAX 2048
 #define TPN_TIMETABLE_MAX 2048
 #define TPN_PROCESS_MAX 22001
+#define TPN_RANK_MAX 32
 
-/* Refusals. Place: the line within its card from 1 for 1 to 4, the firing from 1 for 5 to 8, 0 for 9. */
+/* Refusals. Place: the line within its card from 1 for 1 to 4, the firing from 1 for 5 to 8, 0 for 9 and 10. */
 enum {
     TPN_MALFORMED = 1,
     TPN_OUT_OF_RANGE = 2,
@@ -32,13 +34,18 @@ enum {
     TPN_TOO_MANY_TOKENS = 6,
     TPN_OUTSIDE_INTERVAL = 7,
     TPN_UNTIMABLE = 8,
-    TPN_OUTPUT_TOO_SHORT = 9
+    TPN_OUTPUT_TOO_SHORT = 9,
+    TPN_OTHER_ORDER = 10
 };
 
 int64_t tpn_replay(const uint8_t *input, size_t input_length, uint8_t *output, size_t output_length);
 int64_t tpn_round(const uint8_t *input, size_t input_length, uint8_t *output, size_t output_length);
 int64_t tpn_timetable(const uint8_t *input, size_t input_length, uint8_t *output, size_t output_length);
 int64_t tpn_process(const uint8_t *input, size_t input_length, uint8_t *output, size_t output_length);
+
+/* The answer: a line `rank=` with -1 (X stands before Y), 0 or 1, and a line `lead=` with the lead of X over Y at the instant that decides, negative
+ * if X is earlier, in ticks over the product of the two denominators. */
+int64_t tpn_rank(const uint8_t *input, size_t input_length, uint8_t *output, size_t output_length);
 
 /* The number and the place of a refusal; 0 for an answer. */
 static inline int tpn_number(int64_t result) { return result < 0 ? (int)(-result / 65536) : 0; }

@@ -11,6 +11,7 @@ pub const ENGINE: Engine = Engine {
         linked::round,
         linked::timetable,
         linked::process,
+        linked::rank,
     ],
 };
 
@@ -46,6 +47,7 @@ mod linked {
             output: *mut u8,
             output_len: usize,
         ) -> i64;
+        fn tpn_rank(input: *const u8, input_len: usize, output: *mut u8, output_len: usize) -> i64;
     }
 
     #[inline(always)]
@@ -75,5 +77,9 @@ mod linked {
 
     pub fn process(input: &[u8], output: &mut [u8]) -> i64 {
         call(tpn_process, input, output)
+    }
+
+    pub fn rank(input: &[u8], output: &mut [u8]) -> i64 {
+        call(tpn_rank, input, output)
     }
 }

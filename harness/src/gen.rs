@@ -1,10 +1,11 @@
-//! Seeded inputs for the four operations: nets with runs and orders that are accepted often, near
-//! misses, orders that are hard to time, damaged cards and junk.
+//! Seeded inputs for the five operations: nets with runs, orders and pairs of runs that are accepted
+//! often, near misses, orders that are hard to time, damaged cards and junk.
 //!
 //! An input depends on its seed and index only, so each can be made again alone.
 
 mod damage;
 mod hard;
+mod pair;
 mod rng;
 
 use crate::naive::{Memory, Net, Order, Run, State, Transition};
@@ -13,6 +14,9 @@ use std::collections::BTreeSet;
 
 pub use damage::{damage, junk};
 pub use hard::{bends_to_the_last, drift_to_the_last, hard_order, most_sweeps};
+pub use pair::{
+    beside_timetable, join_pair, large_pair, near_pair, other_pair, pair, runs_of_one_order,
+};
 pub use rng::Rng;
 
 /// An input, and what kind it is of.
@@ -26,14 +30,19 @@ pub fn input(seed: u64, index: u64) -> Input {
     let mut rng = Rng::new(Rng::new(seed).draw() ^ index.wrapping_mul(0xd134_2543_de82_ef95));
     let rng = &mut rng;
     let (kind, bytes) = match rng.below(100) {
-        0..=23 => ("run", text_of_run(rng, false)),
-        24..=37 => ("near run", text_of_run(rng, true)),
-        38..=47 => ("order", text_of_order(rng)),
-        48..=57 => ("tight order", join(&tight_order(rng))),
-        58..=65 => ("hard order", join(&hard_order(rng))),
-        66..=95 => {
-            let mut bytes = match rng.below(3) {
+        0..=17 => ("run", text_of_run(rng, false)),
+        18..=28 => ("near run", text_of_run(rng, true)),
+        29..=36 => ("order", text_of_order(rng)),
+        37..=44 => ("tight order", join(&tight_order(rng))),
+        45..=50 => ("hard order", join(&hard_order(rng))),
+        51..=62 => ("pair", join_pair(&pair(rng))),
+        63..=67 => ("other pair", join_pair(&other_pair(rng))),
+        68..=72 => ("near pair", join_pair(&near_pair(rng))),
+        73..=96 => {
+            let mut bytes = match rng.below(4) {
                 0 => text_of_order(rng),
+                1 if rng.one_in(3) => join_pair(&near_pair(rng)),
+                1 => join_pair(&pair(rng)),
                 _ => text_of_run(rng, false),
             };
             for _ in 0..rng.pick(&[1, 1, 1, 1, 2, 3]) {

@@ -1,6 +1,6 @@
 //! Comparison and benchmark harness for the engine that marks timed runs of weak time Petri nets.
 //!
-//! An [`Engine`] is four functions over lent bytes. Three of them are known: [`PLAIN`], written for
+//! An [`Engine`] is five functions over lent bytes. Three of them are known: [`PLAIN`], written for
 //! speed; [`NAIVE`], written to be obviously right; and [`engine::ENGINE`], the one under test.
 
 pub mod engine;
@@ -9,19 +9,20 @@ pub mod naive;
 pub mod paper;
 pub mod plain;
 
-/// One operation: a net card and a run or order card in, the answer into the output.
+/// One operation: a net card and a run card, an order card or two run cards in, the answer into the
+/// output.
 ///
 /// A result from 0 up is the number of bytes written, a negative one `-(number * 65_536 + place)`.
 pub type Operation = fn(&[u8], &mut [u8]) -> i64;
 
 /// The names of the operations, in the order of [`Engine::operations`].
-pub const OPERATIONS: [&str; 4] = ["replay", "round", "timetable", "process"];
+pub const OPERATIONS: [&str; 5] = ["replay", "round", "timetable", "process", "rank"];
 
-/// An implementation of the four operations.
+/// An implementation of the five operations.
 #[derive(Clone, Copy)]
 pub struct Engine {
     pub name: &'static str,
-    pub operations: [Operation; 4],
+    pub operations: [Operation; OPERATIONS.len()],
 }
 
 pub const PLAIN: Engine = Engine {
@@ -31,6 +32,7 @@ pub const PLAIN: Engine = Engine {
         plain::round,
         plain::timetable,
         plain::process,
+        plain::rank,
     ],
 };
 
@@ -41,6 +43,7 @@ pub const NAIVE: Engine = Engine {
         naive::round,
         naive::timetable,
         naive::process,
+        naive::rank,
     ],
 };
 

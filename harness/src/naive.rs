@@ -1,6 +1,7 @@
-//! The four operations once more, slowly and as close to the paper's words as possible: lines are
+//! The five operations once more, slowly and as close to the paper's words as possible: lines are
 //! split before they are judged, clocks are kept as such, timetables come from Bellman and Ford's
-//! passes over all bounds of each prefix, and tokens are queued one by one.
+//! passes over all bounds of each prefix, tokens are queued one by one, and instants are ranked as
+//! fractions in lowest terms.
 //!
 //! The models of nets, runs and orders here also serve the generator.
 
@@ -282,7 +283,6 @@ impl<'a> Lines<'a> {
             firings.push((wait, self.fire(net)?));
         }
         let rest = self.number("rest", 0, 10_000_000)?;
-        self.nothing()?;
         Ok(Run {
             memory,
             denominator,
@@ -311,12 +311,25 @@ pub fn read_net(input: &[u8]) -> Result<(Net, &[u8]), Refusal> {
     Ok((net, lines.rest))
 }
 
+/// A run card with nothing behind it.
 pub fn read_run(input: &[u8], net: &Net) -> Result<Run, Refusal> {
-    Lines {
+    let mut lines = Lines {
         rest: input,
         line: 0,
-    }
-    .run(net)
+    };
+    let run = lines.run(net)?;
+    lines.nothing()?;
+    Ok(run)
+}
+
+/// A run card, and the bytes behind it.
+pub fn read_first_run<'a>(input: &'a [u8], net: &Net) -> Result<(Run, &'a [u8]), Refusal> {
+    let mut lines = Lines {
+        rest: input,
+        line: 0,
+    };
+    let run = lines.run(net)?;
+    Ok((run, lines.rest))
 }
 
 pub fn read_order(input: &[u8], net: &Net) -> Result<Order, Refusal> {
@@ -534,6 +547,56 @@ pub fn earliest(net: &Net, order: &Order) -> Result<Vec<u64>, Refusal> {
         .collect())
 }
 
+// Ranking
+
+/// An instant in ticks, as a fraction in lowest terms.
+#[derive(Clone, Copy, Debug, PartialEq, Eq)]
+pub struct Instant {
+    pub above: u64,
+    pub below: u64,
+}
+
+impl Instant {
+    pub fn new(parts: u64, denominator: u64) -> Self {
+        let (mut common, mut left) = (denominator, parts);
+        while left > 0 {
+            (common, left) = (left, common % left);
+        }
+        Instant {
+            above: parts / common,
+            below: denominator / common,
+        }
+    }
+
+    /// The number of `1 / fineness` ticks, which must be whole.
+    fn count(self, fineness: u64) -> i64 {
+        assert_eq!(fineness % self.below, 0);
+        (self.above * (fineness / self.below)) as i64
+    }
+}
+
+/// The instants of the firings and the end, in ticks.
+pub fn ticks(run: &Run) -> Vec<Instant> {
+    let parts = run.instants().into_iter();
+    parts
+        .map(|parts| Instant::new(parts, run.denominator))
+        .collect()
+}
+
+/// The rank of x beside y, and its lead; 10 if they are not of one memory and one order.
+pub fn ranked(x: &Run, y: &Run) -> Result<(i64, i64), Refusal> {
+    if x.order() != y.order() {
+        return Err((10, 0));
+    }
+    let mut both = ticks(x).into_iter().zip(ticks(y));
+    let Some((at_x, at_y)) = both.find(|(at_x, at_y)| at_x != at_y) else {
+        return Ok((0, 0));
+    };
+    let product = x.denominator * y.denominator;
+    let lead = at_x.count(product) - at_y.count(product);
+    Ok((if lead < 0 { -1 } else { 1 }, lead))
+}
+
 // Operations
 
 fn rounded(run: &Run) -> Run {
@@ -634,5 +697,17 @@ pub fn timetable(input: &[u8], out: &mut [u8]) -> i64 {
 
 pub fn process(input: &[u8], out: &mut [u8]) -> i64 {
     let answer = accepted(input).map(|(net, run, _)| causes(&net, &run));
+    result(answer, out)
+}
+
+pub fn rank(input: &[u8], out: &mut [u8]) -> i64 {
+    let answer = read_net(input).and_then(|(net, rest)| {
+        let (x, rest) = read_first_run(rest, &net)?;
+        let y = read_run(rest, &net)?;
+        replayed(&net, &x)?;
+        replayed(&net, &y)?;
+        let (rank, lead) = ranked(&x, &y)?;
+        Ok(format!("rank={rank}\nlead={lead}\n"))
+    });
     result(answer, out)
 }

@@ -1,5 +1,5 @@
-//! The cases of the paper and of the readings of its open points, on the plain and the naive version.
-//! In texts `|` stands for byte 10.
+//! The cases of the papers and of the readings of their open points, on the plain and the naive
+//! version. In texts `|` stands for byte 10.
 
 use harness::naive::Net;
 use harness::paper::{net, net_255, net_a, net_b, net_c};
@@ -472,4 +472,163 @@ fn process() {
         &(net_a().card() + &run("atomic", 1, &[], 0)),
         "left=0.0.1,1.0.1|free=none|",
     );
+}
+
+/// What is printed of a rank and a lead.
+fn ranked(rank: i64, lead: i64) -> String {
+    format!("rank={rank}|lead={lead}|")
+}
+
+/// The timetable of net A's order 0, 0, 1, which the cases call X.
+fn run_x() -> String {
+    run("atomic", 1, &[(1, 0), (1, 0), (1, 1)], 0)
+}
+
+#[test]
+fn rank() {
+    // Both ways round: the rank and the lead change their signs and nothing else.
+    let ranks = |net: &Net, x: &str, y: &str, rank: i64, lead: i64| {
+        prints("rank", &(net.card() + x + y), &ranked(rank, lead));
+        prints("rank", &(net.card() + y + x), &ranked(-rank, -lead));
+    };
+    let a = net_a();
+    let x = run_x();
+    let halves = |waits: [u64; 3], rest| {
+        let firings = [(waits[0], 0), (waits[1], 0), (waits[2], 1)];
+        run("atomic", 2, &firings, rest)
+    };
+    ranks(&a, &x, &halves([3, 3, 0], 0), -1, -1);
+    ranks(&a, &x, &halves([2, 2, 2], 0), 0, 0);
+    ranks(&a, &x, &x, 0, 0);
+
+    // The end decides.
+    let waiting = run("atomic", 1, &[(1, 0), (1, 0), (1, 1)], 1);
+    ranks(&a, &x, &waiting, -1, -1);
+    ranks(&a, &halves([2, 2, 2], 1), &x, 1, 1);
+    let end = |denominator, rest| run("atomic", denominator, &[], rest);
+    ranks(&a, &end(1, 0), &end(3, 1), -1, -1);
+    ranks(&a, &end(2, 1), &end(4, 2), 0, 0);
+    ranks(&a, &end(3, 1), &end(2, 1), -1, -1);
+    ranks(&a, &end(1000, 333), &end(3, 1), -1, -1);
+
+    // The first instant that differs decides, whatever comes behind it.
+    let free = net(&[1], &[(0, None, &[1], &[1])]);
+    let pulses = |denominator, waits: &[u64], rest| {
+        let firings: Vec<(u64, u64)> = waits.iter().map(|&wait| (wait, 0)).collect();
+        run("atomic", denominator, &firings, rest)
+    };
+    ranks(
+        &free,
+        &pulses(1, &[0, 9], 9),
+        &pulses(1, &[1, 0], 0),
+        -1,
+        -1,
+    );
+    ranks(&free, &pulses(2, &[2, 5], 0), &pulses(3, &[3, 7], 0), 1, 1);
+    ranks(
+        &free,
+        &pulses(2, &[2, 4, 1], 0),
+        &pulses(3, &[3, 6, 2], 0),
+        -1,
+        -1,
+    );
+
+    // Not reduced: a quarter of a tick is two eighths, a sixth is four parts of 24.
+    ranks(&free, &pulses(2, &[1], 0), &pulses(4, &[1], 0), 1, 2);
+    ranks(&free, &pulses(6, &[4], 0), &pulses(4, &[2], 0), 1, 4);
+
+    // The longest answers: a wait of 10,000,000 against none, with 1,000 as the other denominator.
+    ranks(
+        &free,
+        &pulses(1, &[10_000_000], 0),
+        &pulses(1000, &[0], 0),
+        1,
+        10_000_000_000,
+    );
+    let longest = vec![10_000_000; 64];
+    ranks(
+        &free,
+        &pulses(1000, &longest, 10_000_000),
+        &pulses(1000, &longest, 0),
+        1,
+        10_000_000_000,
+    );
+}
+
+#[test]
+fn rank_refused() {
+    let a = net_a().card();
+    let refused = |x: &str, y: &str, number, place| {
+        refuses("rank", &(a.clone() + x + y), number, place);
+    };
+    let x = run_x();
+
+    // Another memory, another number of firings, another transition: after both replays.
+    let two = |memory: &str| run(memory, 1, &[(1, 0), (1, 0)], 0);
+    for memory in WORDS {
+        for other in WORDS {
+            if memory == other {
+                let tie = a.clone() + &two(memory) + &two(other);
+                prints("rank", &tie, &ranked(0, 0));
+            } else {
+                refused(&two(memory), &two(other), 10, 0);
+            }
+        }
+    }
+    refused(&x, &two("atomic"), 10, 0);
+    refused(&two("atomic"), &x, 10, 0);
+    refused(&run("atomic", 1, &[], 0), &two("atomic"), 10, 0);
+    let pulses = run("atomic", 1, &[(1, 0), (1, 0), (1, 0)], 0);
+    refused(&x, &pulses, 10, 0);
+    let late = run("atomic", 1, &[(0, 0), (1, 0), (1, 1)], 0);
+    refused(&late, &two("atomic"), 7, 1);
+    refused(&two("atomic"), &late, 7, 1);
+
+    // Both cards are read before the first replay, and X is replayed before Y.
+    refused(&late, "memory=atomic|denominator=x|", 1, 2);
+    refused(&late, "", 1, 1);
+    refused(&late, &(x.clone() + "|"), 1, 11);
+    refused(&x, &late, 7, 1);
+    let absent = run("atomic", 1, &[(3, 1), (0, 0)], 0);
+    refused(&late, &absent, 7, 1);
+    refused(&absent, &late, 5, 2);
+    let again = net_255().card() + &run("atomic", 1, &[(0, 0), (0, 0)], 0);
+    refuses("rank", &(again + &run("carry", 1, &[(0, 0)], 0)), 6, 2);
+
+    // Lines of X's card before those of Y's; nothing may follow Y.
+    refused("", "", 1, 1);
+    refused(&x, "", 1, 1);
+    refused("memory=atomic|denominator=0|", &x, 2, 2);
+    refused("memory=atomic|denominator=1|firings=0|", &x, 1, 4);
+    refused(&x, "memory=atomic|denominator=1001|", 2, 2);
+    refused(
+        &x,
+        "memory=atomic|denominator=1|firings=1|wait=0|fire=2|",
+        4,
+        5,
+    );
+    refused(&(x.clone() + "|"), &x, 1, 1);
+    refused(&x, &(x.clone() + "x"), 1, 11);
+    refused(&x, &(x.clone() + &x), 1, 11);
+    refused(&two("atomic"), &(two("atomic") + "|"), 1, 9);
+    refused(&x, &(run("atomic", 1, &[], 0) + "|"), 1, 5);
+    refused(&x, x.strip_suffix('|').unwrap(), 1, 10);
+    refuses("rank", &(a_with(1, "places=0") + &x), 2, 1);
+}
+
+#[test]
+fn rank_output() {
+    let a = net_a().card();
+    let input = bytes(&(a.clone() + &run_x() + &run_x()));
+    let other = bytes(&(a + &run_x() + &run("atomic", 1, &[], 0)));
+    for engine in [PLAIN, NAIVE] {
+        let rank = engine.operations[4];
+        let mut output = [7; 15];
+        assert_eq!(rank(&input, &mut output), 14);
+        assert_eq!(&output, b"rank=0\nlead=0\n\x07");
+        let mut short = [7; 13];
+        assert_eq!(rank(&input, &mut short), -9 * 65_536);
+        assert_eq!(short, [7; 13]);
+        assert_eq!(rank(&other, &mut []), -10 * 65_536);
+    }
 }

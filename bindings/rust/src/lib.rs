@@ -1,7 +1,7 @@
 //! Timed runs of weak time Petri nets.
 //!
-//! Each operation reads a net card and, right behind it, a run card ([`timetable`]: an order card) from its input, and writes its answer to the front
-//! of the output. Nothing is asked of the input; a refusal alters no byte of the output.
+//! Each operation reads a net card and, right behind it, a run card ([`timetable`]: an order card; [`rank`]: two run cards) from its input, and writes
+//! its answer to the front of the output. Nothing is asked of the input; a refusal alters no byte of the output.
 
 use std::fmt;
 
@@ -11,6 +11,7 @@ mod ffi {
         pub fn tpn_round(input: *const u8, input_length: usize, output: *mut u8, output_length: usize) -> i64;
         pub fn tpn_timetable(input: *const u8, input_length: usize, output: *mut u8, output_length: usize) -> i64;
         pub fn tpn_process(input: *const u8, input_length: usize, output: *mut u8, output_length: usize) -> i64;
+        pub fn tpn_rank(input: *const u8, input_length: usize, output: *mut u8, output_length: usize) -> i64;
     }
 }
 
@@ -19,6 +20,7 @@ pub const REPLAY_MAX: usize = 1280;
 pub const ROUND_MAX: usize = 2048;
 pub const TIMETABLE_MAX: usize = 2048;
 pub const PROCESS_MAX: usize = 22001;
+pub const RANK_MAX: usize = 32;
 
 /// What a refusal means; the discriminant is its number.
 #[derive(Clone, Copy, Debug, PartialEq, Eq, Hash)]
@@ -32,6 +34,7 @@ pub enum Meaning {
     OutsideInterval = 7,
     Untimable = 8,
     OutputTooShort = 9,
+    OtherOrder = 10,
 }
 
 /// Why there is no answer.
@@ -43,7 +46,7 @@ pub struct Refusal {
 }
 
 impl Refusal {
-    /// The refusal's number, 1 to 9.
+    /// The refusal's number, 1 to 10.
     pub fn number(self) -> u8 {
         self.meaning as u8
     }
@@ -62,6 +65,7 @@ impl fmt::Display for Refusal {
             Meaning::OutsideInterval => write!(f, "firing {place}: the clock is outside the interval"),
             Meaning::Untimable => write!(f, "the first {place} firings have no timing"),
             Meaning::OutputTooShort => write!(f, "the output is shorter than the answer"),
+            Meaning::OtherOrder => write!(f, "the two runs differ in their memory word or in their order of firings"),
         }
     }
 }
@@ -80,7 +84,8 @@ fn meaning(number: i64) -> Meaning {
         6 => Meaning::TooManyTokens,
         7 => Meaning::OutsideInterval,
         8 => Meaning::Untimable,
-        _ => Meaning::OutputTooShort,
+        9 => Meaning::OutputTooShort,
+        _ => Meaning::OtherOrder,
     }
 }
 
@@ -114,6 +119,12 @@ pub fn timetable(input: &[u8], output: &mut [u8]) -> Result<usize, Refusal> {
 /// Derives the causal process of a run.
 pub fn process(input: &[u8], output: &mut [u8]) -> Result<usize, Refusal> {
     call(ffi::tpn_process, input, output)
+}
+
+/// Ranks two runs of one order, X and then Y. The line `rank=` has -1 if X stands before Y, 0 or 1; the line `lead=` has the lead of X over Y at the
+/// instant that decides, negative if X is earlier, in ticks over the product of the two denominators.
+pub fn rank(input: &[u8], output: &mut [u8]) -> Result<usize, Refusal> {
+    call(ffi::tpn_rank, input, output)
 }
 
 #[cfg(test)]
@@ -161,5 +172,47 @@ mod tests {
             }
         );
         assert_eq!(out, [7u8; 16]);
+    }
+
+    #[test]
+    fn ranks() {
+        let card = |denominator, waits: [u32; 2], rest| {
+            let [one, two] = waits;
+            format!("memory=atomic\ndenominator={denominator}\nfirings=2\nwait={one}\nfire=0\nwait={two}\nfire=0\nrest={rest}\n")
+        };
+        let mut out = [7u8; RANK_MAX];
+        let mut answer = |x: &str, y: &str| {
+            let n = rank(&input([x, y].concat().as_bytes()), &mut out).unwrap();
+            assert!(out[n..].iter().all(|b| *b == 7));
+            let text = String::from_utf8(out[..n].to_vec()).unwrap();
+            out.fill(7);
+            text
+        };
+        // instants 3/2 and 11/4, 3/2 and 3
+        let (x, y) = (card(4, [6, 5], 0), card(2, [3, 3], 0));
+        assert_eq!(answer(&x, &y), "rank=-1\nlead=-2\n");
+        assert_eq!(answer(&y, &x), "rank=1\nlead=2\n");
+        assert_eq!(answer(&y, &card(4, [6, 6], 0)), "rank=0\nlead=0\n");
+        assert_eq!(answer(&y, &card(2, [3, 3], 10000000)), "rank=-1\nlead=-20000000\n");
+    }
+
+    #[test]
+    fn rank_refusals() {
+        let one = "memory=atomic\ndenominator=1\nfirings=1\nwait=1\nfire=0\nrest=0\n";
+        let none = "memory=atomic\ndenominator=1\nfirings=0\nrest=0\n";
+        let refused = |cards: &[&str], out: &mut [u8]| {
+            let refusal = rank(&input(cards.concat().as_bytes()), out).unwrap_err();
+            (refusal.number(), refusal.place)
+        };
+        let mut out = [7u8; 13];
+        let other = rank(&input([one, none].concat().as_bytes()), &mut []).unwrap_err();
+        assert_eq!((other.meaning, other.place, other.number()), (Meaning::OtherOrder, 0, 10));
+        assert_eq!(other.to_string(), "the two runs differ in their memory word or in their order of firings");
+        assert_eq!(refused(&[one, &one.replace("atomic", "carry")], &mut out), (10, 0));
+        assert_eq!(refused(&[one, one], &mut out), (9, 0));
+        assert_eq!(refused(&[one], &mut out), (1, 1));
+        assert_eq!(refused(&[one, one, "\n"], &mut out), (1, 7));
+        assert_eq!(refused(&[one, &one.replace("wait=1", "wait=0")], &mut out), (7, 1));
+        assert_eq!(out, [7u8; 13]);
     }
 }

@@ -20,7 +20,7 @@ use Rattle.run.specs.Same.{SameRun, SameOrder}
 use Rattle.run.proofs.Ranges.{run-in-ranges, order-in-ranges}
 use Rattle.run.proofs.Same.{run-same, order-same}
 use Rattle.cards.specs.Cards.{inputOf, readRun, readOrder, runCards, orderCards, runChecked, orderChecked, runText, orderText}
-use Rattle.cards.proofs.OnNet.{card-read-back, card-written-again, card-passes-exactly, card-short, both-prefix, both-was}
+use Rattle.cards.proofs.OnNet.{card-read-back, card-written-again, card-passes-exactly, card-short, both-near, both-was}
 
 module _ (net : Net) where
   few : netCard .check net 1 ≡ Passed → net .transitions ≤ 32
@@ -88,10 +88,10 @@ module _ (net : Net) where
 
 -- a program whose buffer holds the first k bytes loses nothing
 pub run-cards-prefix : (s : List ℕ) (k : ℕ) → netReach + runReach < k → runCards (take k s) ≡ runCards s
-run-cards-prefix = both-prefix runCard run-format
+run-cards-prefix = both-near runCard run-format .prefix
 
 pub order-cards-prefix : (s : List ℕ) (k : ℕ) → netReach + orderReach < k → orderCards (take k s) ≡ orderCards s
-order-cards-prefix = both-prefix orderCard order-format
+order-cards-prefix = both-near orderCard order-format .prefix
 
 -- what was read passes its check, and written again it is the input
 pub run-cards-passed : (s : List ℕ) {net : Net} {r : Run} {end : ℕ} → runCards s ≡ found (net, r) end → runChecked net r ≡ Passed

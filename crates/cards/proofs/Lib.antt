@@ -1,5 +1,5 @@
-pub mod Behind
 pub mod Cards
 pub mod OnNet
 pub mod Places
+pub mod TwoRuns
 pub mod Values

@@ -1,22 +1,22 @@
 -- A card of a net, whichever its form: the net is judged first, and then the card is read, checked and written as any other.
-use Prim.Native.Nat.{ℕ, _+_, _-_, _≤_, _<_}
+use Prim.Native.Nat.{ℕ, _+_, _≤_}
 use native.Mathlib.Omega.{arith}
 use mathlib.Core.Path.{_≡_, refl, sym, ap, subst, _∙_}
 use mathlib.Core.Logic.{_↔_}
 use mathlib.Core.List.{List, _++_}
-use lib.ListN.{length, take, drop, length-append}
-use Rattle.laws.specs.Writing.{drop-take}
+use lib.ListN.{length, drop, length-append}
 use Rattle.reply.specs.declared.Checked.{Checked}
 use Rattle.reply.specs.declared.Checked.the-variants.{Passed, Refused}
 use Rattle.reply.specs.Respond.{answer, writtenIf}
 use Rattle.reply.proofs.Laws.{written-answer}
-use Rattle.form.specs.Form.{Found, found, also, Form, alone}
+use Rattle.form.specs.Form.{Found, found, also, Form, front, alone}
 use Rattle.form.specs.Inverse.{Format}
-use Rattle.form.proofs.Found.{not-both, found-value, found-place, then-found, then-same, also-first, also-second}
-use Rattle.form.proofs.Card.{text-short, alone-read-back, alone-written-again, alone-passes-exactly, alone-prefix}
+use Rattle.form.proofs.Found.{not-both, also-first, also-second}
+use Rattle.form.proofs.Card.{text-short, alone-read-back, alone-written-again, alone-passes-exactly}
+use Rattle.form.proofs.Row.{Near, front-near, alone-near, follow-near, row-read}
 use Rattle.net.specs.declared.Net.{Net}
 use Rattle.net.specs.Net.{netCard}
-use Rattle.net.proofs.Card.{netReach, net-inverse, net-reaches, net-prefix, net-transitions}
+use Rattle.net.proofs.Card.{netReach, net-inverse, net-reaches, net-transitions}
 use Rattle.cards.specs.Cards.{onNet, bothCards, inputOf}
 
 on-net-found : {A : Type 0} (c : Checked) (m : Found A) {a : A} {next : ℕ} → onNet c m ≡ found a next → (c ≡ Passed) × (m ≡ found a next)
@@ -50,19 +50,14 @@ module _ {A : Type 0} (c : Checked) (f : Form A) {P : Type 0} {reach most : ℕ}
       let h = few (also-first c (f .check a 1) p) in
       text-short (w .inverse h) (w .reaches h) a (also-second c (f .check a 1) p)
 
+-- a net that was read has few transitions
+pub read-few : (s : List ℕ) {net : Net} {next : ℕ} → front netCard s ≡ found net next → net .transitions ≤ 32
+read-few s {net} {next} e = net-transitions net (net-inverse .written-read net s 0 next 1 e .passed) .1
+
 -- a reading of both cards looks at as much as the two readings together
-pub both-prefix : {A : Type 0} (f : ℕ → Form A) {reach most : ℕ} → ((transitions : ℕ) → Format (transitions ≤ 32) (f transitions) reach most)
-    → (s : List ℕ) (k : ℕ)
-    → netReach + reach < k → bothCards f (take k s) ≡ bothCards f s
-both-prefix f w s k h =
-    rw (net-prefix s k (omega arith))
-    (then-same (netCard .read s 0 1) _ _ (λ net next e.
-    let few = net-transitions net (net-inverse .written-read net s 0 next 1 e .passed) .1 in
-    rw (
-      drop-take next k s,
-      alone-prefix (w (net .transitions) .reaches few) (drop next s) (k - next)
-          (omega (arith, net-reaches .near net s 0 next 1 e)),
-    ) refl))
+pub both-near : {A : Type 0} (card : ℕ → Form A) {reach most : ℕ} → ((transitions : ℕ) → Format (transitions ≤ 32) (card transitions) reach most)
+    → Near (bothCards card) (netReach + reach)
+both-near card w = follow-near (front-near net-reaches) (λ s net next e. alone-near (w (net .transitions) .reaches (read-few s e)))
 
 -- an input that was read as a net card and a card of that net: it is what both write, and they pass their checks
 pub record BothRead {A : Type 0} (card : ℕ → Form A) (v : Net × A) (s : List ℕ) (next : ℕ) : Type 0 where
@@ -70,24 +65,16 @@ pub record BothRead {A : Type 0} (card : ℕ → Form A) (v : Net × A) (s : Lis
   pub end : next ≡ length s
   pub passed : also (netCard .check (v .0) 1) (card (v .0 .transitions) .check (v .1) 1) ≡ Passed
 
-both-same : {A : Type 0} (card : ℕ → Form A) {v x : Net × A} {s : List ℕ} {next end : ℕ} → found v next ≡ found x end → BothRead card v s next
-    → BothRead card x s end
-both-same card e w = rw (← found-value e, ← found-place e) w
-
 pub both-was : {A : Type 0} (card : ℕ → Form A) {reach most : ℕ} → ((transitions : ℕ) → Format (transitions ≤ 32) (card transitions) reach most)
     → (s : List ℕ) {v : Net × A} {next : ℕ}
     → bothCards card s ≡ found v next → BothRead card v s next
-both-was card w s e =
-    let u = then-found (netCard .read s 0 1) _ e in
-    let net = u .value in
-    let behind = drop (u .place) s in
-    let x = then-found (alone (card (net .transitions)) behind) _ (u .then) in
-    let first = net-inverse .written-read net s 0 (u .place) 1 (u .first) in
-    let second = alone-written-again (w (net .transitions) .inverse (net-transitions net (first .passed) .1)) behind (x .first) in
-    let text = netCard .text net in
-    both-same card (x .then)
-    (record {
-      bytes = ap (λ (l : List ℕ). text ++ l) (sym (second .bytes)) ∙ sym (first .bytes);
-      end = omega (arith, first .end, second .end, ap length (first .bytes) ∙ length-append text behind);
-      passed = rw (first .passed) (second .passed);
-    })
+both-was card w s {v} e =
+    let text = netCard .text (v .0) in
+    let row = row-read net-inverse (λ net. alone (card (net .transitions))) s e in
+    let few = net-transitions (v .0) (row .passed) .1 in
+    let second = alone-written-again (w (v .0 .transitions) .inverse few) (drop (length text) s) (row .there) in
+    record {
+      bytes = ap (λ (l : List ℕ). text ++ l) (sym (second .bytes)) ∙ sym (row .bytes);
+      end = omega (arith, row .in-all, second .end, ap length (row .bytes) ∙ length-append text (drop (length text) s));
+      passed = rw (row .passed) (second .passed);
+    }

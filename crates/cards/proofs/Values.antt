@@ -1,16 +1,16 @@
 -- A net and a run or an order of it, handed over as values, are checked as the input of their cards is read.
-use Prim.Native.Nat.{ℕ, _+_, _≤_}
+use Prim.Native.Nat.{ℕ, _≤_}
 use native.Mathlib.Nat.{min-eq-left}
 use native.Mathlib.Omega.{arith}
 use mathlib.Core.Path.{_≡_, refl, sym, ap, _∙_}
 use mathlib.Core.List.{List, _++_}
-use lib.ListN.{length, drop, length-append}
-use Rattle.laws.specs.Writing.{drop-behind}
+use lib.ListN.{length, length-append}
 use Rattle.reply.specs.declared.Checked.the-variants.{Passed}
-use Rattle.form.specs.Form.{found, foundIf, also, Form}
+use Rattle.form.specs.Form.{found, foundIf, also, Form, alone}
 use Rattle.form.specs.Line.{writable}
 use Rattle.form.specs.Inverse.{Format, Told}
-use Rattle.form.proofs.Found.{also-first, also-second, judged-then, judged-more}
+use Rattle.form.proofs.Found.{also-first, also-second, judged-same}
+use Rattle.form.proofs.Row.{row-told}
 use Rattle.form.proofs.Writable.{alone-told, told-text}
 use Rattle.net.specs.declared.Net.{Net}
 use Rattle.net.specs.Net.{netCard}
@@ -50,15 +50,15 @@ module _ {A : Type 0} (card : ℕ → Form A) {reach most : ℕ} (w : (transitio
       let f = card (net .transitions) in
       let t = netCard .text (writableNet net) in
       let u = card (writable (net .transitions)) .text (cut a) in
-      rw (net-told .told net (t ++ u) u 0 1 refl)
-      (judged-then (netCard .check net 1) (f .check a 1) (netCard .clean net) (0 + length t) _ _ _ (λ p.
-      let few = net-transitions net p .1 in
-      let behind : drop (0 + length t) (t ++ u) ≡ f .text (cut a) = drop-behind (t ++ u) t u 0 refl ∙ ap (λ (n : ℕ). card n .text (cut a)) (few-written p) in
-      let same = ap (λ (n : ℕ). length (card n .text (cut a))) (few-written p) in
-      let long : 0 + length t + length (f .text (cut a)) ≡ length (t ++ u) = omega (arith, length-append t u) in
-      rw (behind, alone-told (z (net .transitions) few) a)
-      (judged-more (f .check a 1) (f .clean a) _ _ _ _ (λ q.
-      ap (found (netCard .clean net, f .clean a)) (long ∙ ap length (input-same p q))))))
+      let c = also (netCard .check net 1) (f .check a 1) in
+      row-told net-told (λ n. alone (card (n .transitions))) net u (f .check a 1) (f .clean a) (length u)
+      (λ p.
+      let same : u ≡ f .text (cut a) = ap (λ (n : ℕ). card n .text (cut a)) (few-written p) in
+      rw same (alone-told (z (net .transitions) (net-transitions net p .1)) a))
+      ∙ judged-same c _ _ _ _ (λ p.
+      let first = also-first (netCard .check net 1) (f .check a 1) p in
+      let second = also-second (netCard .check net 1) (f .check a 1) p in
+      ap (found (netCard .clean net, f .clean a)) (sym (length-append t u) ∙ ap length (input-same first second)))
 
 -- a value is told by its check as its card is told by reading, a number too long to write standing as the largest that can be written
 pub run-cards-told : (net : Net) (r : Run) → runCards (inputOf runCard (writableNet net) (writableRun r))

@@ -1,13 +1,10 @@
 -- The operations on cards of a net: what each finds, by the forms of the cards.
-use Prim.Native.Nat.{ℕ, _+_}
+use Prim.Native.Nat.{ℕ}
 use mathlib.Core.List.{List, _++_}
-use lib.ListN.{drop}
 use Rattle.reply.specs.declared.Checked.{Checked}
 use Rattle.reply.specs.declared.Checked.the-variants.{Passed, Refused}
 use Rattle.reply.specs.Respond.{Outcome, writtenIf}
-use Rattle.form.specs.declared.LineRead.{LineRead}
-use Rattle.form.specs.declared.LineRead.the-variants.{Next, Stopped}
-use Rattle.form.specs.Form.{Found, found, refused, andThen, also, Form, alone}
+use Rattle.form.specs.Form.{Found, refused, also, Form, front, alone, follow}
 use Rattle.net.specs.declared.Net.{Net}
 use Rattle.net.specs.Net.{netCard}
 use Rattle.run.specs.declared.Run.{Run}
@@ -28,7 +25,7 @@ readOrder net s = onNet (netCard .check net 1) (alone (orderCard (net .transitio
 
 -- a net card and, right behind it, a card of that net
 abbrev pub bothCards : {A : Type 0} → (ℕ → Form A) → List ℕ → Found (Net × A)
-bothCards card s = andThen (netCard .read s 0 1) (λ net next. andThen (alone (card (net .transitions)) (drop next s)) (λ a end. found (net, a) (next + end)))
+bothCards card = follow (front netCard) (λ net. alone (card (net .transitions)))
 
 abbrev pub runCards : List ℕ → Found (Net × Run)
 runCards = bothCards runCard
@@ -36,19 +33,21 @@ runCards = bothCards runCard
 abbrev pub orderCards : List ℕ → Found (Net × Order)
 orderCards = bothCards orderCard
 
--- the same in two steps: the card behind a net card of which so much was read, from the part of the input behind that
-abbrev pub cardBehind : {A : Type 0} → Form A → List ℕ → LineRead → Found A
-cardBehind f s (Next n) = alone f (drop n s)
-cardBehind f s (Stopped r) = refused r
+-- a net card and, right behind it, the cards of two runs of that net
+abbrev pub twoRuns : List ℕ → Found (Net × (Run × Run))
+twoRuns = follow (front netCard) (λ net. follow (front (runCard (net .transitions))) (λ _. alone (runCard (net .transitions))))
 
--- a run and an order of a net, handed over as values: the net first
+-- a run, an order and two runs of a net, handed over as values: the net first
 abbrev pub runChecked : Net → Run → Checked
 runChecked net r = also (netCard .check net 1) (runCard (net .transitions) .check r 1)
 
 abbrev pub orderChecked : Net → Order → Checked
 orderChecked net o = also (netCard .check net 1) (orderCard (net .transitions) .check o 1)
 
--- their cards
+abbrev pub twoRunsChecked : Net → Run → Run → Checked
+twoRunsChecked net x y = also (netCard .check net 1) (also (runCard (net .transitions) .check x 1) (runCard (net .transitions) .check y 1))
+
+-- the cards of a run and of an order
 abbrev pub runText : Net → Run → Outcome
 runText net r = writtenIf (runChecked net r) (runCard (net .transitions) .text r)
 
@@ -58,3 +57,7 @@ orderText net o = writtenIf (orderChecked net o) (orderCard (net .transitions) .
 -- the input that a net and a card behind it make
 abbrev pub inputOf : {A : Type 0} → (ℕ → Form A) → Net → A → List ℕ
 inputOf card net a = netCard .text net ++ card (net .transitions) .text a
+
+-- and that of a net and two runs of it
+abbrev pub twoRunsInput : Net → Run → Run → List ℕ
+twoRunsInput net x y = netCard .text net ++ (runCard (net .transitions) .text x ++ runCard (net .transitions) .text y)

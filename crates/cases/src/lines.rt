@@ -1,12 +1,6 @@
-// The text of a file of cases: its lines and parts, the bytes that a line stands for, and its numbers.
+// The text of a file of cases: its lines and parts, the bytes that a part stands for, its words and its numbers.
 ghost use Prim.Native.Nat.{_+_, _≤_, min};
 ghost use lib.ListN.{length};
-
-// How many bytes a part of a case stands for, or that it cannot be read.
-pub(crate) enum Decoded {
-    Bytes(usize),
-    Unreadable,
-}
 
 // The part of a text between two positions; an empty one where they do not stand in the text, the first before the second.
 pub(crate) fn part(s: &[u8], from: usize, to: usize) -> &[u8] {
@@ -38,6 +32,11 @@ pub(crate) fn behind(s: &[u8], at: usize, b: u8) -> usize
     i
 }
 
+// The part of a text between the line at a position and another position.
+pub(crate) fn between(s: &[u8], line: usize, to: usize) -> &[u8] {
+    part(s, behind(s, line, 10), to)
+}
+
 // Where the given line stands from the line at a position on, or the text's end.
 pub(crate) fn line_at(s: &[u8], from: usize, line: &[u8]) -> usize {
     let mut i = from;
@@ -50,16 +49,33 @@ pub(crate) fn line_at(s: &[u8], from: usize, line: &[u8]) -> usize {
     i
 }
 
-// The value of a hexadecimal digit; 16 where it is none.
-fn hex_digit(b: u8) -> u8 {
+// How many words of a list stand before the one that the text has at a position; in the list a semicolon stands behind each.
+pub(crate) fn word_at(s: &[u8], at: usize, words: &[u8]) -> usize {
+    let mut n: usize = 0;
+    let mut i: usize = 0;
+    while i < words.len() {
+        let next = behind(words, i, 59);
+        if text::begins_at(s, at, part(words, i, next - 1)) {
+            return n;
+        }
+        n += 1;
+        i = next;
+    }
+    n
+}
+
+// The value of a hexadecimal digit; 512 where it is none.
+fn hex_digit(b: u8) -> u32
+    ensures { λ r. ⌜ r ≤ 512 ⌝ }
+{
     match b {
-        48..=57 => b - 48,
-        97..=102 => b - 87,
-        _ => 16,
+        48..=57 => b as u32 - 48,
+        97..=102 => b as u32 - 87,
+        _ => 512,
     }
 }
 
-// The decimal number at a position, as far as it has digits and fits; 0 where there is none.
+// The decimal number at a position, modulo 2 to the 32; 0 where there is none.
 pub(crate) fn number(s: &[u8], at: usize) -> u32 {
     let mut v: u64 = 0;
     let mut i = at;
@@ -68,87 +84,47 @@ pub(crate) fn number(s: &[u8], at: usize) -> u32 {
         if 9 < d {
             return v as u32;
         }
-        let more = v * 10 + d as u64;
-        if 4294967295 < more {
-            return v as u32;
-        }
-        v = more;
+        v = (v * 10 + d as u64) % 4294967296;
         i += 1;
     }
     v as u32
 }
 
-// How much of an escape has been read: nothing, its backslash, or its first digit too.
-enum Escape {
-    Outside,
-    Begun,
-    Half(u8),
-}
-
-// What one more byte makes of an escape.
-enum Step {
-    Byte(u8),
-    Reading(Escape),
-    Wrong,
-}
-
-// A backslash begins an escape; before a line's end it takes that end away, and before two digits it stands for their byte.
-fn read_byte(escape: Escape, b: u8) -> Step {
-    match escape {
-        Escape::Outside => {
-            if b == 92 {
-                return Step::Reading(Escape::Begun);
-            }
-            Step::Byte(b)
+// What a byte makes of what was read so far of an escape: 0 where that is nothing, 1 a backslash, and from 16 to 31 a digit too. From 256 to
+// 511 a byte is read, and above that the escape is wrong.
+fn read_byte(escape: u32, b: u8) -> u32 {
+    if escape == 0 {
+        if b == 92 {
+            return 1;
         }
-        Escape::Begun => {
-            if b == 10 {
-                return Step::Reading(Escape::Outside);
-            }
-            let high = hex_digit(b);
-            if high == 16 {
-                return Step::Wrong;
-            }
-            Step::Reading(Escape::Half(high))
-        }
-        Escape::Half(high) => {
-            let low = hex_digit(b);
-            if low == 16 {
-                return Step::Wrong;
-            }
-            Step::Byte(((high as u32 * 16 + low as u32) % 256) as u8)
-        }
+        return 256 + b as u32;
     }
+    if b == 10 {
+        return 0;
+    }
+    escape % 32 * 16 + hex_digit(b)
 }
 
-// Writes the bytes that a part of a case stands for.
-pub(crate) fn decode(s: &[u8], out: &mut [u8; 16384]) -> Decoded {
-    let mut escape = Escape::Outside;
+// Writes the bytes that a part of a case stands for; how many, or one more than there is room for where it cannot be read. A backslash takes away
+// the line's end behind it, and with two digits behind it stands for their byte.
+pub(crate) fn decode(s: &[u8], out: &mut [u8; 16384]) -> usize {
     let mut n: usize = 0;
+    let mut escape: u32 = 0;
     let mut i: usize = 0;
     while i < s.len() {
-        let next = read_byte(escape, s[i]);
-        match next {
-            Step::Wrong => {
-                return Decoded::Unreadable;
+        escape = read_byte(escape, s[i]);
+        if 256 <= escape {
+            if 16384 <= n {
+                return 16385;
             }
-            Step::Reading(e) => {
-                escape = e;
+            if 512 <= escape {
+                return 16385;
             }
-            Step::Byte(b) => {
-                if 16384 <= n {
-                    return Decoded::Unreadable;
-                }
-                out[n] = b;
-                n += 1;
-                escape = Escape::Outside;
-            }
+            out[n] = (escape % 256) as u8;
+            n += 1;
+            escape = 0;
         }
         i += 1;
     }
-    match escape {
-        Escape::Outside => Decoded::Bytes(n),
-        Escape::Begun => Decoded::Unreadable,
-        Escape::Half(_) => Decoded::Unreadable,
-    }
+    n
 }

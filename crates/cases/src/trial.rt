@@ -1,12 +1,12 @@
 // What an operation makes of the input of a case, as text: the answer or the refusal, and whether the output was touched elsewhere.
 use super::change;
+use super::change::Values;
 use super::lines;
-use super::lines::Decoded;
-use super::parts;
 use super::parts::Case;
 use super::parts::Operation;
 use form::LineRead;
 use net::Net;
+use ranking::Ranking;
 use reply::Refusal;
 use reply::Reply;
 use run::Order;
@@ -19,13 +19,17 @@ fn pattern(i: usize) -> u8 {
     (128 + i % 127) as u8
 }
 
-// Sets each byte of an output to the pattern.
-fn prepare(out: &mut [u8]) {
+// A buffer for an output, with the pattern.
+fn prepared() -> [u8; 16384]
+    ensures { λ r. ⌜ 16384 ≡ length r ⌝ }
+{
+    let mut out = [0u8; 16384];
     let mut i: usize = 0;
-    while i < out.len() {
+    while i < 16384 {
         out[i] = pattern(i);
         i += 1;
     }
+    out
 }
 
 // The first position from a given one on where an output has lost the pattern, or its length.
@@ -40,172 +44,165 @@ fn touched_at(out: &[u8], from: usize) -> usize {
     i
 }
 
-// A text put behind what was got so far, as far as there is room; the position behind it.
-fn put(got: &mut [u8; 16384], at: usize, text: &[u8]) -> usize {
-    let mut to = at;
-    let mut i: usize = 0;
-    while i < text.len() {
-        if 16384 <= to {
-            return to;
-        }
-        got[to] = text[i];
-        to += 1;
-        i += 1;
-    }
-    to
-}
-
-// A line with a key and a number.
-fn put_line(got: &mut [u8; 16384], at: usize, key: &[u8], n: u64) -> usize {
-    let mut digits = [0u8; 20];
-    let k = io::decimal(n, &mut digits);
-    let at_number = put(got, at, key);
-    let at_end = put(got, at_number, &digits[..k]);
-    put(got, at_end, b"\n")
-}
-
 // The lines of a refusal.
-fn put_refusal(got: &mut [u8; 16384], at: usize, why: Refusal) -> usize {
-    let to = put_line(got, at, b"refused=", reply::number_of(why) as u64);
-    put_line(got, to, b"place=", reply::position_of(why) as u64)
+fn put_refusal(got: &mut [u8], why: Refusal) -> usize {
+    let to = form::put_number_line(&mut *got, 0, b"refused=", reply::number_of(why) as u64);
+    form::put_number_line(got, to, b"place=", reply::position_of(why) as u64)
 }
 
-// A line for a touched byte of the output from a position on, where there is one.
-fn put_touched(got: &mut [u8; 16384], at: usize, out: &[u8], from: usize) -> usize {
-    let i = touched_at(out, from);
-    if i < out.len() {
-        return put_line(got, at, b"touched=", i as u64);
-    }
-    at
-}
-
-// The answer or the refusal.
-fn put_reply(got: &mut [u8; 16384], r: Reply, out: &[u8]) -> usize {
+// The answer or the refusal, and a line for a byte of the output that was touched besides, where there is one.
+fn put_reply(got: &mut [u8], r: Reply, out: &[u8]) -> usize {
     match r {
         Reply::Refused(why) => {
-            let to = put_refusal(got, 0, why);
+            let to = put_refusal(&mut *got, why);
             put_touched(got, to, out, 0)
         }
         Reply::Written(n) => {
-            let to = put(got, 0, lines::part(out, 0, n));
+            let to = text::put_bytes(&mut *got, 0, lines::part(out, 0, n));
             put_touched(got, to, out, n)
         }
     }
 }
 
-// A run card read for a net, and the run written.
-fn run_of(net: Net, card: &[u8], out: &mut [u8]) -> Reply {
-    let r = run_card::read_run(net, card);
-    let read = r.read;
-    match read {
-        LineRead::Stopped(why) => Reply::Refused(why),
-        LineRead::Next(_) => {
-            let timed = r.run;
-            run_card::write_run(net, timed, out)
+// A line for a touched byte of the output from a position on, where there is one.
+fn put_touched(got: &mut [u8], at: usize, out: &[u8], from: usize) -> usize {
+    let i = touched_at(out, from);
+    if i < out.len() {
+        return form::put_number_line(got, at, b"touched=", i as u64);
+    }
+    at
+}
+
+// A number without its sign.
+fn magnitude(n: i64) -> u64 {
+    if n < 0 {
+        return (-1 - n) as u64 + 1;
+    }
+    n as u64
+}
+
+// A line with a key of five bytes, behind which a minus sign stands, and a number that may be negative.
+fn put_signed(out: &mut [u8], at: usize, key: &[u8], n: i64) -> usize {
+    let mut length: usize = 5;
+    if n < 0 {
+        length = 6;
+    }
+    form::put_number_line(out, at, lines::part(key, 0, length), magnitude(n))
+}
+
+// How run X stands to run Y, in the form of the answer over cards.
+fn rank_reply(net: Net, x: Run, y: Run, out: &mut [u8]) -> Reply {
+    let r = ranking::rank(net, x, y);
+    match r {
+        Ranking::Refused(why) => Reply::Refused(why),
+        Ranking::Ranked { rank, lead } => {
+            let to = put_signed(&mut *out, 0, b"rank=-", rank as i64);
+            Reply::Written(put_signed(out, to, b"lead=-", lead))
         }
     }
 }
 
-// An order card read for a net, and the order written.
-fn order_of(net: Net, card: &[u8], out: &mut [u8]) -> Reply {
-    let r = run_card::read_order(net, card);
-    let read = r.read;
-    match read {
-        LineRead::Stopped(why) => Reply::Refused(why),
-        LineRead::Next(_) => {
-            let untimed = r.order;
-            run_card::write_order(net, untimed, out)
-        }
+// How far two cards were read, one after the other.
+fn last_read(first: LineRead, second: LineRead) -> LineRead {
+    match first {
+        LineRead::Stopped(_) => first,
+        LineRead::Next(_) => second,
     }
 }
 
-// What an operation on a net that was read and changed replies.
-fn of_net(operation: Operation, net: Net, card: &[u8], out: &mut [u8]) -> Reply {
-    match operation {
-        Operation::ReadRun => run_of(net, card, out),
-        Operation::ReadOrder => order_of(net, card, out),
-        _ => net_card::write_net(net, out),
-    }
-}
-
-// A net card read and changed as a value; it is written, or a card is read for it.
-fn net_reply(
+// How far the cards of an operation were read; 1 at 0, as no card is refused, where it is not known.
+fn read_of(
     operation: Operation,
-    input: &[u8],
-    changes: &[u8],
-    card: &[u8],
-    out: &mut [u8],
-) -> Reply {
-    let n = net_card::read_net(input);
-    let read = n.read;
-    match read {
-        LineRead::Stopped(why) => Reply::Refused(why),
-        LineRead::Next(_) => {
-            let value = n.net;
-            of_net(operation, change::changed_net(value, changes), card, out)
-        }
-    }
-}
-
-// What an operation on a run that was read and changed replies.
-fn of_run(operation: Operation, net: Net, timed: Run, out: &mut [u8]) -> Reply {
+    net: LineRead,
+    run: LineRead,
+    order: LineRead,
+    other: LineRead,
+) -> LineRead {
     match operation {
-        Operation::ReplayValue => engine::replay(net, timed, out),
-        Operation::RoundValue => engine::round(net, timed, out),
-        Operation::ProcessValue => engine::process(net, timed, out),
-        _ => run_card::write_run(net, timed, out),
+        Operation::Net | Operation::NetValue | Operation::ReadRun | Operation::ReadOrder => net,
+        Operation::Order | Operation::TimetableValue => order,
+        Operation::RankValue => last_read(run, other),
+        Operation::Unknown => LineRead::Stopped(Refusal::Malformed(0)),
+        _ => run,
     }
 }
 
-// A net card and a run card read and changed as values.
-fn run_reply(operation: Operation, input: &[u8], changes: &[u8], out: &mut [u8]) -> Reply {
+// The values of an operation: a net card and a card behind it, and the card that is read for the net as it was read.
+fn values_of(operation: Operation, input: &[u8], card: &[u8]) -> Values {
     let n = net_card::read_net(input);
     let net = n.net;
-    let first = n.read;
-    let behind = run_card::run_behind(input, first, net.transitions);
-    let read = behind.read;
-    match read {
-        LineRead::Stopped(why) => Reply::Refused(why),
-        LineRead::Next(_) => {
-            let timed = behind.run;
-            let net_value = change::changed_net(net, changes);
-            of_run(
-                operation,
-                net_value,
-                change::changed_run(timed, changes),
-                out,
-            )
-        }
+    let net_read = n.read;
+    let x = run_card::run_behind(input, net_read, net.transitions, true);
+    let o = run_card::order_behind(input, net_read, net.transitions);
+    let y = run_card::run_card(card, net.transitions);
+    let run = x.run;
+    let order = o.order;
+    let other = y.run;
+    let run_read = x.read;
+    let order_read = o.read;
+    let other_read = y.read;
+    Values {
+        read: read_of(operation, net_read, run_read, order_read, other_read),
+        net,
+        run,
+        order,
+        other,
     }
 }
 
-// What an operation on an order that was read and changed replies.
-fn of_order(operation: Operation, net: Net, untimed: Order, out: &mut [u8]) -> Reply {
+// Values with a run and an order that were read for their net.
+fn with_read(v: Values, second: LineRead, run: Run, order: Order) -> Values {
+    let first = v.read;
+    let net = v.net;
+    let other = v.other;
+    Values {
+        read: last_read(first, second),
+        net,
+        run,
+        order,
+        other,
+    }
+}
+
+// The values of an operation once they are changed: those that read a run or an order for the changed net read it now.
+fn with_card(operation: Operation, v: Values, card: &[u8]) -> Values {
     match operation {
-        Operation::TimetableValue => engine::timetable(net, untimed, out),
-        _ => run_card::write_order(net, untimed, out),
+        Operation::ReadRun => {
+            let r = run_card::read_run(v.net, card);
+            let read = r.read;
+            with_read(v, read, r.run, v.order)
+        }
+        Operation::ReadOrder => {
+            let o = run_card::read_order(v.net, card);
+            let read = o.read;
+            with_read(v, read, v.run, o.order)
+        }
+        _ => v,
     }
 }
 
-// A net card and an order card read and changed as values.
-fn order_reply(operation: Operation, input: &[u8], changes: &[u8], out: &mut [u8]) -> Reply {
-    let n = net_card::read_net(input);
-    let net = n.net;
-    let first = n.read;
-    let behind = run_card::order_behind(input, first, net.transitions);
-    let read = behind.read;
+// What an operation that writes a value or ranks two runs replies.
+fn write_or_rank(operation: Operation, v: Values, out: &mut [u8]) -> Reply {
+    match operation {
+        Operation::Run | Operation::ReadRun => run_card::write_run(v.net, v.run, out),
+        Operation::Order | Operation::ReadOrder => run_card::write_order(v.net, v.order, out),
+        Operation::RankValue => rank_reply(v.net, v.run, v.other, out),
+        _ => net_card::write_net(v.net, out),
+    }
+}
+
+// What an operation on values replies, where they were read.
+fn of_values(operation: Operation, v: Values, out: &mut [u8]) -> Reply {
+    let read = v.read;
     match read {
         LineRead::Stopped(why) => Reply::Refused(why),
-        LineRead::Next(_) => {
-            let untimed = behind.order;
-            let net_value = change::changed_net(net, changes);
-            of_order(
-                operation,
-                net_value,
-                change::changed_order(untimed, changes),
-                out,
-            )
-        }
+        LineRead::Next(_) => match operation {
+            Operation::ReplayValue => engine::replay(v.net, v.run, out),
+            Operation::RoundValue => engine::round(v.net, v.run, out),
+            Operation::TimetableValue => engine::timetable(v.net, v.order, out),
+            Operation::ProcessValue => engine::process(v.net, v.run, out),
+            _ => write_or_rank(operation, v, out),
+        },
     }
 }
 
@@ -222,103 +219,61 @@ fn reply_of(
         Operation::Round => engine::round_cards(input, out),
         Operation::Timetable => engine::timetable_cards(input, out),
         Operation::Process => engine::process_cards(input, out),
-        Operation::Run
-        | Operation::RunValue
-        | Operation::ReplayValue
-        | Operation::RoundValue
-        | Operation::ProcessValue => run_reply(operation, input, changes, out),
-        Operation::Order | Operation::OrderValue | Operation::TimetableValue => {
-            order_reply(operation, input, changes, out)
+        Operation::Rank => ranking::rank_cards(input, out),
+        _ => {
+            let v = change::changed(values_of(operation, input, card), operation, changes);
+            of_values(operation, with_card(operation, v, card), out)
         }
-        _ => net_reply(operation, input, changes, card, out),
     }
 }
 
 // For a net card, a line with the length of the remainder of the input.
-fn put_left(got: &mut [u8; 16384], at: usize, operation: Operation, input: &[u8]) -> usize {
+fn put_left(got: &mut [u8], at: usize, operation: Operation, input: &[u8]) -> usize {
     match operation {
         Operation::Net => {
             let n = net_card::read_net(input);
             let read = n.read;
             let rest = net_card::remainder(input, read);
-            put_line(got, at, b"left=", rest.len() as u64)
+            form::put_number_line(got, at, b"left=", rest.len() as u64)
         }
         _ => at,
     }
 }
 
-// What an operation says that was lent this output.
-fn reply_into(
+// What an operation says that was lent an output of the case's length.
+fn reply_text(
     operation: Operation,
+    size: usize,
     input: &[u8],
     changes: &[u8],
     card: &[u8],
-    out: &mut [u8],
-    got: &mut [u8; 16384],
+    got: &mut [u8],
 ) -> usize {
-    prepare(&mut *out);
-    let r = reply_of(operation, input, changes, card, &mut *out);
-    let to = put_reply(got, r, out);
+    if 16384 < size {
+        return put_refusal(got, Refusal::Malformed(0));
+    }
+    let mut lent = prepared();
+    let r = reply_of(operation, input, changes, card, &mut lent[..size]);
+    let to = put_reply(&mut *got, r, &lent[..size]);
     put_left(got, to, operation, input)
 }
 
-// A buffer for an output.
-fn buffer() -> [u8; 16384]
-    ensures { λ r. ⌜ 16384 ≡ length r ⌝ }
-{
-    [0; 16384]
-}
-
-// What an operation says that was lent an output of the case's length.
-fn reply_text(
-    case: Case,
-    input: &[u8],
-    changes: &[u8],
-    card: &[u8],
-    got: &mut [u8; 16384],
-) -> Decoded {
-    let size = case.size;
-    if 16384 < size {
-        return Decoded::Unreadable;
-    }
-    let mut lent = buffer();
-    let operation = case.operation;
-    let n = reply_into(operation, input, changes, card, &mut lent[..size], got);
-    Decoded::Bytes(n)
-}
-
-// Whether a case has all its parts, an operation that is known, and changes that can be made.
-fn readable(s: &[u8], case: Case) -> bool {
-    if s.len() <= case.end {
-        return false;
-    }
-    let operation = case.operation;
-    match operation {
-        Operation::Unknown => false,
-        _ => change::all_made(parts::changes_of(s, case), operation),
-    }
-}
-
-// Runs a case; what it got, as text.
-pub(crate) fn outcome(s: &[u8], case: Case, got: &mut [u8; 16384]) -> Decoded {
-    if !readable(s, case) {
-        return Decoded::Unreadable;
-    }
+// Runs a case: what it got, as text, and how long that is.
+pub(crate) fn outcome(s: &[u8], case: Case, got: &mut [u8]) -> usize {
     let mut input = [0u8; 16384];
-    let i = lines::decode(parts::input_of(s, case), &mut input);
-    let Decoded::Bytes(input_length) = i else {
-        return Decoded::Unreadable;
-    };
     let mut card = [0u8; 16384];
-    let c = lines::decode(parts::card_of(s, case), &mut card);
-    let Decoded::Bytes(card_length) = c else {
-        return Decoded::Unreadable;
-    };
+    let i = lines::decode(lines::between(s, case.at, case.with), &mut input);
+    let c = lines::decode(lines::between(s, case.card, case.expect), &mut card);
+    let mut operation = case.operation;
+    if (16384 < i) | (16384 < c) | (s.len() <= case.end) {
+        operation = Operation::Unknown;
+    }
     reply_text(
-        case,
-        lines::front(&input, input_length),
-        parts::changes_of(s, case),
-        lines::front(&card, card_length),
+        operation,
+        case.size,
+        lines::front(&input, i),
+        lines::between(s, case.with, case.card),
+        lines::front(&card, c),
         got,
     )
 }

@@ -25,7 +25,7 @@ use Rattle.firing.specs.Semantics.{arcsOf, startMarking, ruleOf}
 use Rattle.firing.specs.Replay.{startState, waited, play, rested, replay}
 use Rattle.firing.specs.Tokens.{tokens}
 use Rattle.firing.proofs.Agree.{play-soon}
-use Rattle.firing.proofs.Places.{length-firings}
+use Rattle.run.proofs.Firings.{length-firings}
 use Rattle.timing.specs.Schedule.{Scheduled, timed, unschedulable, schedule}
 use Rattle.timing.specs.Rounding.{roundedRun, timetableRun}
 use Rattle.timing.proofs.Rounded.{rounded-checked, scheduled-checked}

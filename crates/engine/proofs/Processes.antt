@@ -22,7 +22,7 @@ use Rattle.firing.specs.Semantics.{arcsOf, startMarking}
 use Rattle.firing.specs.Tokens.{tokens, markingAfter}
 use Rattle.firing.proofs.Clocks.{few-transitions, enabled-listed}
 use Rattle.firing.proofs.Accept.{length-start, start-at}
-use Rattle.firing.proofs.Places.{length-firings}
+use Rattle.run.proofs.Firings.{length-firings}
 use Rattle.timing.proofs.Meet.{length-order}
 use Rattle.causal.specs.Process.{Queues, Event, oldest, startQueues, takenBy, itemsOf, queuesAfter, queuesBehind, events, left}
 use Rattle.causal.specs.Free.{tookFrom, free}

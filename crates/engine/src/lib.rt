@@ -97,7 +97,7 @@ pub fn replay_cards(input: &[u8], out: &mut [u8]) -> Reply
 {
     let n = net_card::read_net(input);
     let net_read = n.read;
-    let r = run_card::run_behind(input, net_read, n.net.transitions);
+    let r = run_card::run_behind(input, net_read, n.net.transitions, true);
     let read = r.read;
     match read {
         LineRead::Stopped(why) => Reply::Refused(why),
@@ -135,7 +135,7 @@ pub fn round_cards(input: &[u8], out: &mut [u8]) -> Reply
 {
     let n = net_card::read_net(input);
     let net_read = n.read;
-    let r = run_card::run_behind(input, net_read, n.net.transitions);
+    let r = run_card::run_behind(input, net_read, n.net.transitions, true);
     let read = r.read;
     match read {
         LineRead::Stopped(why) => Reply::Refused(why),
@@ -211,7 +211,7 @@ pub fn process_cards(input: &[u8], out: &mut [u8]) -> Reply
 {
     let n = net_card::read_net(input);
     let net_read = n.read;
-    let r = run_card::run_behind(input, net_read, n.net.transitions);
+    let r = run_card::run_behind(input, net_read, n.net.transitions, true);
     let read = r.read;
     match read {
         LineRead::Stopped(why) => Reply::Refused(why),

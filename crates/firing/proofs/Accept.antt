@@ -5,7 +5,7 @@ use native.Mathlib.Nat.{add-zero}
 use native.Mathlib.Omega.{arith}
 use mathlib.Core.Path.{_≡_, refl, sym, ap, subst, _∙_}
 use mathlib.Core.Bool.{Bool, true, false, cond, not, _&&_, _||_}
-use mathlib.Core.Logic.{_↔_}
+use mathlib.Core.Logic.{_↔_, inl, inr}
 use mathlib.Core.List.{List, [], _∷_, _++_}
 use lib.ListN.{length, getD, replicate, List·getD-eq-default, getD-replicate, length-replicate}
 use lib.Dec.{leb}
@@ -14,8 +14,7 @@ use native.Mathlib.Decide.{decLt}
 use Rattle.laws.specs.Tests.{all-one, all-fails}
 use Rattle.laws.specs.Arrays.{length-filled, filled-at}
 use Rattle.reply.specs.declared.Refusal.{Refusal}
-use Rattle.reply.specs.declared.Refusal.the-variants.{Malformed, OutOfRange, LatestBelowEarliest, NoSuchTransition, NotEnabled, TooManyTokens, OutsideInterval}
-use Rattle.reply.specs.declared.Refusal.the-variants.{Untimable, OutputTooShort}
+use Rattle.reply.specs.declared.Refusal.the-variants.{NotEnabled, TooManyTokens, OutsideInterval}
 use Rattle.reply.specs.declared.Checked.{Checked}
 use Rattle.reply.specs.declared.Checked.the-variants.{Passed, Refused}
 use Rattle.net.specs.declared.Net.{Net}
@@ -31,6 +30,12 @@ use Rattle.firing.specs.Claims.{view, Matches, Restarting, OnTime, Becau
 use Rattle.firing.proofs.Clocks.{Sound, few-places, sound-waited, sound-fired, timely-true, tokensOn, after-at}
 use Rattle.firing.proofs.Agree.{refused-not, passes, view-elapses, view-fires, view-bounded}
 use Rattle.firing.proofs.Agree.{play-sound, play-steps, matches-waited, Replayed, play-complete}
+
+-- a run is replayed by its firings, and then rests
+pub replay-plays : (net : Net) (restarts : Restart) (r : Run)
+    → replay net restarts r .checked ≡ play net restarts (r .denominator) (firingsOf r) (startState net) 0 .checked
+unfolding replay
+replay-plays net restarts r = refl
 
 -- ---- why a judgement refuses
 module _ (net : Net) (D : ℕ) (st : State) (t n : ℕ) where
@@ -50,7 +55,7 @@ module _ (net : Net) (D : ℕ) (st : State) (t n : ℕ) where
   because sound r =
       go (enabled (arcsOf net) (st .marking) t) (timely (transitionAt net t) D (clockOf st t)) (limited (arcsOf net) (st .marking) t) refl refl refl
     where
-      is : {r′ : Refusal} → Refused r′ ≡ Refused r → r′ ≡ r
+      is : {r′ : Refusal} → Refused r′ ≡ Refused r → r ≡ r′
       is e = cc
 
       go : (a b c : Bool) → enabled (arcsOf net) (st .marking) t ≡ a → timely (transitionAt net t) D (clockOf st t) ≡ b
@@ -58,10 +63,9 @@ module _ (net : Net) (D : ℕ) (st : State) (t n : ℕ) where
           → cond a (cond b (cond c Passed (Refused (TooManyTokens n))) (Refused (OutsideInterval n))) (Refused (NotEnabled n)) ≡ Refused r
           → Because net D r n (view st) t
       go true true true p q s e = let k : _≡_ {A = ℕ} 0 1 = cc in absurd (omega arith)
-      go true true false p q s e =
-          subst (λ (x : Refusal). Because net D x n (view st) t) (is e) (refl, p, timely-true (transitionAt net t) D (clockOf st t) .0 q, too-many sound s)
-      go true false c p q s e = subst (λ (x : Refusal). Because net D x n (view st) t) (is e) (refl, p, late q)
-      go false b c p q s e = subst (λ (x : Refusal). Because net D x n (view st) t) (is e) (refl, p)
+      go true true false p q s e = inr (inr (is e, p, timely-true (transitionAt net t) D (clockOf st t) .0 q, too-many sound s))
+      go true false c p q s e = inr (inl (is e, p, late q))
+      go false b c p q s e = inl (is e, p)
 
 -- ---- and back: for that reason the judgement refuses
 module _ (net : Net) (D : ℕ) (S : Timed) (st : State) (t n : ℕ) (sound : Sound st) (m : Matches net S st) where
@@ -78,25 +82,19 @@ module _ (net : Net) (D : ℕ) (S : Timed) (st : State) (t n : ℕ) (sound : Sou
 
   pub judged-so : (r : Refusal) → Because net D r n S t → judged net D st t n ≡ Refused r
   unfolding judgedBy
-  judged-so (NotEnabled k) (i, off) =
+  judged-so r (inl (i, off)) =
       let off′ : enabled (arcsOf net) (st .marking) t ≡ false = rw (m .same-marking) at off in
       rw (off′, i) refl
-  judged-so (OutsideInterval k) (i, on, missed) =
+  judged-so r (inr (inl (i, on, missed))) =
       let on′ : enabled (arcsOf net) (st .marking) t ≡ true = rw (m .same-marking) at on in
       rw (on′, go (timely (transitionAt net t) D (clockOf st t)) refl, i) refl
     where
       go : (b : Bool) → timely (transitionAt net t) D (clockOf st t) ≡ b → timely (transitionAt net t) D (clockOf st t) ≡ false
       go true e = absurd (missed (timely-so on .0 e))
       go false e = e
-  judged-so (TooManyTokens k) (i, on, on-time, (p, l, more)) =
+  judged-so r (inr (inr (i, on, on-time, (p, l, more)))) =
       let on′ : enabled (arcsOf net) (st .marking) t ≡ true = rw (m .same-marking) at on in
       rw (on′, timely-so on .1 on-time, passes-limit p l more, i) refl
-  judged-so (Malformed k) b = absurd b
-  judged-so (OutOfRange k) b = absurd b
-  judged-so (LatestBelowEarliest k) b = absurd b
-  judged-so (NoSuchTransition k) b = absurd b
-  judged-so (Untimable k) b = absurd b
-  judged-so OutputTooShort b = absurd b
 
 module _ (net : Net) (restarts : Restart) (D : ℕ) where
   -- ---- the first firing that is not allowed

@@ -1,38 +1,27 @@
 -- A refusal of a run names one of its firings, since it is the firing behind those that are allowed.
-use Prim.Native.Nat.{ℕ, suc, _+_, _≤_, min}
+use Prim.Native.Nat.{ℕ, suc, _+_, _≤_}
 use native.Mathlib.Nat.{min-le-left}
 use native.Mathlib.Omega.{arith}
 use mathlib.Core.Path.{_≡_, ap, _∙_}
+use mathlib.Core.Logic.{inl, inr}
 use mathlib.Core.List.{_∷_}
 use lib.ListN.{length, length-append}
-use Rattle.laws.specs.Slots.{length-first}
 use Rattle.reply.specs.declared.Refusal.{Refusal}
-use Rattle.reply.specs.declared.Refusal.the-variants.{Malformed, OutOfRange, LatestBelowEarliest, NoSuchTransition, NotEnabled, TooManyTokens, OutsideInterval}
-use Rattle.reply.specs.declared.Refusal.the-variants.{Untimable, OutputTooShort}
 use Rattle.reply.specs.declared.Checked.the-variants.{Refused}
 use Rattle.reply.specs.Refusal.{positionOf}
 use Rattle.net.specs.declared.Net.{Net}
 use Rattle.run.specs.declared.Run.{Run}
-use Rattle.run.specs.Run.{noFiring, firingsOf}
+use Rattle.run.specs.Run.{firingsOf}
+use Rattle.run.proofs.Firings.{length-firings}
 use Rattle.firing.specs.Semantics.{Restart, Timed}
 use Rattle.firing.specs.Replay.{replay}
 use Rattle.firing.specs.Claims.{Because}
 use Rattle.firing.proofs.Accept.{refused-first}
 
 because-place : (net : Net) (D : ℕ) (r : Refusal) (n : ℕ) (S : Timed) (t : ℕ) → Because net D r n S t → positionOf r ≡ n
-because-place net D (NotEnabled k) n S t b = b .0
-because-place net D (OutsideInterval k) n S t b = b .0
-because-place net D (TooManyTokens k) n S t b = b .0
-because-place net D (Malformed k) n S t b = absurd b
-because-place net D (OutOfRange k) n S t b = absurd b
-because-place net D (LatestBelowEarliest k) n S t b = absurd b
-because-place net D (NoSuchTransition k) n S t b = absurd b
-because-place net D (Untimable k) n S t b = absurd b
-because-place net D OutputTooShort n S t b = absurd b
-
-pub length-firings : (r : Run) → length (firingsOf r) ≡ min (r .count) 64
-unfolding firingsOf
-length-firings r = length-first (min (r .count) 64) noFiring (r .firings)
+because-place net D r n S t (inl b) = ap positionOf (b .0)
+because-place net D r n S t (inr (inl b)) = ap positionOf (b .0)
+because-place net D r n S t (inr (inr b)) = ap positionOf (b .0)
 
 pub replay-place : (net : Net) (restarts : Restart) (run : Run) (r : Refusal) → replay net restarts run .checked ≡ Refused r
     → (1 ≤ positionOf r) × (positionOf r ≤ run .count)

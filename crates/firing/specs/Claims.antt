@@ -2,11 +2,11 @@
 use Prim.Native.Nat.{ℕ, _+_, _*_, _≤_, _<_}
 use mathlib.Core.Path.{_≡_}
 use mathlib.Core.Bool.{true, false}
+use mathlib.Core.Logic.{_⊎_}
 use mathlib.Core.List.{List, _∷_, _++_}
 use lib.ListN.{length, getD}
 use Rattle.reply.specs.declared.Refusal.{Refusal}
-use Rattle.reply.specs.declared.Refusal.the-variants.{Malformed, OutOfRange, LatestBelowEarliest, NoSuchTransition, NotEnabled, TooManyTokens, OutsideInterval}
-use Rattle.reply.specs.declared.Refusal.the-variants.{Untimable, OutputTooShort}
+use Rattle.reply.specs.declared.Refusal.the-variants.{NotEnabled, TooManyTokens, OutsideInterval}
 use Rattle.net.specs.declared.Net.{Net}
 use Rattle.run.specs.declared.Firing.{Firing}
 use Rattle.firing.specs.declared.State.{State}
@@ -33,17 +33,11 @@ OnTime net D S t = (D * transitionAt net t .earliest ≤ S .clock t) × NotAfter
 
 -- why firing number n, of t, is refused in the published state S: 5, 7 or 6, each only where those before it in this order do not hold
 abbrev pub Because : Net → ℕ → Refusal → ℕ → Timed → ℕ → Type 0
-Because net D (NotEnabled k) n S t = (k ≡ n) × (enabled (arcsOf net) (S .marking) t ≡ false)
-Because net D (OutsideInterval k) n S t = (k ≡ n) × (enabled (arcsOf net) (S .marking) t ≡ true) × (OnTime net D S t → ⊥)
-Because net D (TooManyTokens k) n S t =
-    (k ≡ n) × (enabled (arcsOf net) (S .marking) t ≡ true) × OnTime net D S t
-    × ((p : ℕ) × (p < arcsOf net .places) × (255 < getD (after (arcsOf net) (S .marking) t) p 0))
-Because net D (Malformed k) n S t = ⊥
-Because net D (OutOfRange k) n S t = ⊥
-Because net D (LatestBelowEarliest k) n S t = ⊥
-Because net D (NoSuchTransition k) n S t = ⊥
-Because net D (Untimable k) n S t = ⊥
-Because net D OutputTooShort n S t = ⊥
+Because net D r n S t =
+    ((r ≡ NotEnabled n) × (enabled (arcsOf net) (S .marking) t ≡ false))
+    ⊎ (((r ≡ OutsideInterval n) × (enabled (arcsOf net) (S .marking) t ≡ true) × (OnTime net D S t → ⊥))
+    ⊎ ((r ≡ TooManyTokens n) × (enabled (arcsOf net) (S .marking) t ≡ true) × OnTime net D S t
+    × ((p : ℕ) × (p < arcsOf net .places) × (255 < getD (after (arcsOf net) (S .marking) t) p 0))))
 
 -- the firings fs from the published state S are refused with r: those in front of one are allowed, and that one is not, for the reason given
 pub record FirstRefused (net : Net) (restarts : Restart) (D : ℕ) (fs : List Firing) (S : Timed) (n : ℕ) (r : Refusal) : Type 0 where

@@ -64,6 +64,11 @@ pub also-second : (c c′ : Checked) → also c c′ ≡ Passed → c′ ≡ Pas
 also-second Passed c′ e = e
 also-second (Refused r) c′ e = cc
 
+-- three checks, grouped either way
+pub also-also : (a b c : Checked) → also a (also b c) ≡ also (also a b) c
+also-also Passed b c = refl
+also-also (Refused r) b c = refl
+
 -- a fact that each part has which passes
 pub checks-each : {A : Type 0} (f : Form A) (P : A → Type 0) → ((a : A) (line : ℕ) → f .check a line ≡ Passed → P a)
     → (l : List A) (line : ℕ) → checks f l line ≡ Passed → Each P l

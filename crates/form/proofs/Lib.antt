@@ -8,5 +8,6 @@ pub mod Lines
 pub mod Loops
 pub mod NumberLines
 pub mod Places
+pub mod Row
 pub mod Same
 pub mod Writable

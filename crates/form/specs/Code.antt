@@ -23,6 +23,11 @@ abbrev pub lineRead : {A : Type 0} → Found A → LineRead
 lineRead (found a next) = Next next
 lineRead (refused r) = Stopped r
 
+-- what stands behind the cards that were read, from the part of the input that starts there
+abbrev pub behind : {A : Type 0} → (List ℕ → Found A) → List ℕ → LineRead → Found A
+behind read s (Next n) = read (drop n s)
+behind read s (Stopped r) = refused r
+
 -- the value found, or a filler
 abbrev pub valueOr : {A : Type 0} → A → Found A → A
 valueOr d (found a next) = a

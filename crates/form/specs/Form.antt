@@ -111,10 +111,18 @@ held to from f =
       clean = λ b. to (f .clean (from b));
     }
 
+-- a card at the front of an input, behind which anything may follow
+abbrev pub front : {A : Type 0} → Form A → List ℕ → Found A
+front f s = f .read s 0 1
+
 -- what was found, where nothing follows it (the place of what follows is one past the last line)
 abbrev pub ended : {A : Type 0} → Form A → List ℕ → Found A → Found A
 ended f s read = andThen read (λ a next. cond (leb (length s) next) (found a next) (refused (Malformed (1 + f .lines a))))
 
 -- a whole card, behind which nothing may follow
 abbrev pub alone : {A : Type 0} → Form A → List ℕ → Found A
-alone f s = ended f s (f .read s 0 1)
+alone f s = ended f s (front f s)
+
+-- cards in a row: what stands behind the first is read from the part of the input that starts there, and its lines are counted from 1 again
+abbrev pub follow : {A B : Type 0} → (List ℕ → Found A) → (A → List ℕ → Found B) → List ℕ → Found (A × B)
+follow first then s = andThen (first s) (λ a next. andThen (then a (drop next s)) (λ b end. found (a, b) (next + end)))

@@ -4,5 +4,6 @@ pub mod Tables
 pub mod Arrays
 pub mod Each
 pub mod Writing
+pub mod Differences
 pub mod Division
 pub mod Sums

@@ -1,12 +1,14 @@
--- Tests of every number, or of some number, below a bound, and what loops keep that ask them.
+-- Tests of every number, or of some number, below a bound, and what loops keep that ask them; and a test of two lists.
 use Prim.Native.Nat.{ℕ, zero, suc, _+_, _≤_, _<_}
 use native.Mathlib.Nat.{le-of-suc-le-suc, not-suc-le-zero, eq-or-lt-of-le, lt-trans, lt-suc-self}
 use native.Mathlib.Numerals.{add-one}
 use native.Mathlib.Omega.{arith}
 use mathlib.Core.Bool.{Bool, true, false, _&&_, and-false, and-eq-true-iff, not, _||_}
 use mathlib.Core.Path.{_≡_, refl, _∙_, sym}
-use mathlib.Core.Logic.{⊎-elim}
-use borrow.Author.Tests.{not-true, not-false}
+use mathlib.Core.Logic.{⊎-elim, _↔_}
+use mathlib.Core.List.{List, [], _∷_}
+use lib.Dec.{eqb}
+use borrow.Author.Tests.{not-true, not-false, eqb-true, eq-eqb}
 
 -- ---- A test of every number below a bound, and what a loop that is left at the first failure needs of it.
 
@@ -104,3 +106,34 @@ module _ {f : ℕ → Bool} {n : ℕ} {ok : Bool} {p : ℕ} (s : Scanned f n ok 
 
   pub scan-done : n ≤ p → ok ≡ allBelow f n
   scan-done l = let e : p ≡ n = omega (arith, s .within) in s .so-far ∙ sym (rw e at (s .passed))
+
+-- ---- Two lists of numbers that are the same, entry by entry.
+
+unfoldable pub sameNumbers : List ℕ → List ℕ → Bool
+sameNumbers [] [] = true
+sameNumbers [] (b ∷ l) = false
+sameNumbers (a ∷ k) [] = false
+sameNumbers (a ∷ k) (b ∷ l) = eqb a b && sameNumbers k l
+
+pub same-numbers-exactly : (k l : List ℕ) → (sameNumbers k l ≡ true) ↔ (k ≡ l)
+unfolding sameNumbers
+same-numbers-exactly [] [] = (λ e. refl, λ e. refl)
+same-numbers-exactly [] (b ∷ l) = (λ e. let z : _≡_ {A = ℕ} 0 1 = cc in absurd (omega arith), λ e. cc)
+same-numbers-exactly (a ∷ k) [] = (λ e. let z : _≡_ {A = ℕ} 0 1 = cc in absurd (omega arith), λ e. cc)
+same-numbers-exactly (a ∷ k) (b ∷ l) = (
+  λ e.
+      let h = and-eq-true-iff (eqb a b) (sameNumbers k l) .0 e in
+      rw (eqb-true a b (h .0), same-numbers-exactly k l .0 (h .1)) refl,
+  λ e.
+      let head : a ≡ b = cc in
+      let tail : k ≡ l = cc in
+      rw (eq-eqb a b head, same-numbers-exactly k l .1 tail) refl,
+)
+
+-- lists that are not the same
+pub not-same : (k l : List ℕ) → (k ≡ l → ⊥) → sameNumbers k l ≡ false
+not-same k l h = go (sameNumbers k l) refl
+  where
+    go : (b : Bool) → sameNumbers k l ≡ b → b ≡ false
+    go true e = absurd (h (same-numbers-exactly k l .0 e))
+    go false e = refl

@@ -7,7 +7,7 @@ use mathlib.Core.Path.{_≡_, refl, sym, ap, subst, _∙_}
 use mathlib.Core.Bool.{Bool, true, false, cond, _&&_}
 use mathlib.Core.Logic.{_↔_}
 use mathlib.Core.List.{List, _++_, map}
-use lib.ListN.{length, getD, take, drop, replicate, length-map}
+use lib.ListN.{length, getD, drop, replicate, length-map}
 use lib.Dec.{lit<, leb, ltb}
 use Rattle.laws.specs.Each.{each-append, each-image, each-replicate, each-at}
 use Rattle.laws.specs.Slots.{firstOf, padTo, length-first, length-pad, getD-first}
@@ -191,10 +191,7 @@ pub net-passes-exactly : (n : Net) (rest : List ℕ)
     → (netCard .check n 1 ≡ Passed) ↔ (netCard .read (netCard .text n ++ rest) 0 1 ≡ found (netCard .clean n) (length (netCard .text n)))
 net-passes-exactly = passes-exactly net-inverse net-settled
 
--- a program whose buffer holds the first k bytes loses nothing
-pub net-prefix : (s : List ℕ) (k : ℕ) → netReach ≤ k → netCard .read (take k s) 0 1 ≡ netCard .read s 0 1
-net-prefix s k h = net-reaches .prefix s k 0 1 (omega arith)
-
+-- no card is longer than what a reading looks at
 pub net-short : (n : Net) → netCard .check n 1 ≡ Passed → length (netCard .text n) ≤ netReach
 net-short = text-short net-inverse net-reaches
 

@@ -14,7 +14,7 @@ use Rattle.run.specs.Run.{firingsOf, orderOf}
 use Rattle.firing.specs.Semantics.{arcsOf, startMarking, ruleOf}
 use Rattle.firing.specs.Replay.{replay}
 use Rattle.firing.specs.Tokens.{tokens}
-use Rattle.firing.proofs.Places.{length-firings}
+use Rattle.run.proofs.Firings.{length-firings}
 use Rattle.timing.proofs.Meet.{length-order}
 use Rattle.timing.proofs.Timings.{run-timing}
 use Rattle.causal.specs.Print.{processText}

@@ -14,8 +14,7 @@ use Rattle.reply.specs.declared.Checked.{Checked}
 use Rattle.reply.specs.declared.Checked.the-variants as checked
 use Rattle.reply.specs.declared.Checked.the-variants.{Passed}
 use Rattle.reply.specs.Respond.{answer, refusal, writtenIf, Answered}
-use Rattle.reply.proofs.Laws as reply-laws
-use Rattle.reply.proofs.Laws.{written-answer, checked-refused}
+use Rattle.reply.proofs.Laws.{demanded, written-answer, checked-refused}
 use Rattle.form.specs.Form.{Found, found, refused, foundIf}
 use Rattle.form.proofs.Found.{also-first, also-second}
 use Rattle.net.specs.declared.Net.{Net}
@@ -52,7 +51,7 @@ use Rattle.operations.specs.Replay.{endText, ended, replayOf}
 use Rattle.operations.specs.Timetable.{scheduleText, timetableOf, timetableValues}
 use Rattle.operations.specs.Outcomes.{OnRun, replaying, Operation, of-run, of-order, of-run-cards, of-order-cards, write-net, write-run, write-order}
 use Rattle.operations.specs.Outcomes.{workOf, valuesOf, outcomeOf}
-use Rattle.operations.specs.Demands.{WrittenExactly, BytesSettled, RefusedExactly, TooShortExactly, NothingAltered, RunAsCards, OrderAsCards}
+use Rattle.operations.specs.Demands.{EveryReply, RunAsCards, OrderAsCards}
 use Rattle.operations.specs.Demands.{ValuesRefusedAsCards, CardsFirst}
 use Rattle.operations.specs.Demands.{SlotsNoPart, PrefixDecides, Allows, AcceptedExactly, AcceptedCardsExactly, RefusedAt, RefusedAtExactly}
 use Rattle.operations.specs.Demands.{RefusedAtCardsExactly, PrintedEnd}
@@ -130,20 +129,8 @@ own (write-run net r) e =
     run-own replaying net r (ap (λ (c : Checked). onceChecked c (workOf replaying net r)) (checked-refused (runChecked net r) _ e))
 own (write-order net o) e = order-own net o (ap (λ (c : Checked). onceChecked c (timetableOf net o)) (checked-refused (orderChecked net o) _ e))
 
-pub written-exactly : (op : Operation) → WrittenExactly op
-written-exactly op = reply-laws.written-exactly (outcomeOf op)
-
-pub bytes-settled : (op : Operation) → BytesSettled op
-bytes-settled op = reply-laws.bytes-settled (outcomeOf op)
-
-pub refused-exactly : (op : Operation) → RefusedExactly op
-refused-exactly op out r other = reply-laws.refused-exactly (outcomeOf op) r other out
-
-pub too-short-exactly : (op : Operation) → TooShortExactly op
-too-short-exactly op = reply-laws.too-short-exactly (outcomeOf op) (own op)
-
-pub nothing-altered : (op : Operation) → NothingAltered op
-nothing-altered op = reply-laws.nothing-altered (outcomeOf op)
+pub every-reply : EveryReply
+every-reply op = demanded (outcomeOf op) (own op)
 
 pub slots-no-part : SlotsNoPart
 slots-no-part = (
@@ -161,7 +148,7 @@ prefix-decides = (
 
 -- ======== demand 2
 module _ (net : Net) (r : Run) where
-  allowed-exactly : (replay net (ruleOf (arcsOf net) (r .memory)) r .checked ≡ Passed) ↔ Allows net r
+  pub allowed-exactly : (replay net (ruleOf (arcsOf net) (r .memory)) r .checked ≡ Passed) ↔ Allows net r
   allowed-exactly = accept.accepted-exactly net (ruleOf (arcsOf net) (r .memory)) r (rule-restarting net (r .memory))
 
   work-exactly : (what : OnRun) → Answered (workOf what net r) ↔ Allows net r

@@ -43,7 +43,7 @@ use Rattle.operations.proofs.Demands.{round-whole, timetable-earliest}
 use Rattle.operations.proofs.Places.{cards-placed, timetable-placed}
 
 -- an operation on cards that answers has read them
-once-read : {A : Type 0} {P : Type 0} {bytes : List ℕ} (f : Found A) (o : A → Outcome) → ((a : A) (next : ℕ) → f ≡ found a next → o a ≡ answer bytes → P)
+pub once-read : {A : Type 0} {P : Type 0} {bytes : List ℕ} (f : Found A) (o : A → Outcome) → ((a : A) (next : ℕ) → f ≡ found a next → o a ≡ answer bytes → P)
     → onceRead f o ≡ answer bytes → P
 once-read (found a next) o then e = then a next refl e
 once-read (refused r) o then e = let z : _≡_ {A = ℕ} 0 1 = cc in absurd (omega arith)

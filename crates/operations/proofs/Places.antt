@@ -27,7 +27,7 @@ use Rattle.operations.specs.Outcomes.{OnRun, workOf, cardsOf}
 use Rattle.operations.proofs.Answers.{work-refused, schedule-refusal}
 
 -- an operation on cards refuses what it cannot read, and otherwise what its own work refuses
-once-refused : {A : Type 0} {P : Type 0} {r : Refusal} (f : Found A) (o : A → Outcome) → (f ≡ refused r → P)
+pub once-refused : {A : Type 0} {P : Type 0} {r : Refusal} (f : Found A) (o : A → Outcome) → (f ≡ refused r → P)
     → ((a : A) (next : ℕ) → f ≡ found a next → o a ≡ refusal r → P) → onceRead f o ≡ refusal r → P
 once-refused (found a next) o first then e = then a next refl e
 once-refused (refused q) o first then e = first (cc)
@@ -47,7 +47,7 @@ schedule-refused net restarts o r e =
     (h .0, omega (arith, fires-few o))
 
 -- a refusal of cards names one of their lines
-line-place : {r : Refusal} → Among 1 146 r → Place r
+pub line-place : {r : Refusal} → Among 1 146 r → Place r
 line-place h = (h .from, omega (arith, h .below))
 
 pub cards-placed : (what : OnRun) (s : List ℕ) (r : Refusal) → cardsOf what s ≡ refusal r → Place r

@@ -1,13 +1,12 @@
 -- The change requests, proved as specs/Requests.antt states them, under the same names.
-use mathlib.Core.Path.{_≡_, refl}
+use mathlib.Core.Path.{_≡_}
 use mathlib.Core.Logic.{_↔_}
 use Rattle.reply.specs.declared.Checked.the-variants.{Passed}
 use Rattle.net.specs.declared.Net.{Net}
 use Rattle.run.specs.declared.Run.{Run}
-use Rattle.run.specs.Run.{firingsOf, orderOf, waitsOf}
-use Rattle.firing.specs.Semantics.{Restart}
-use Rattle.firing.specs.Replay.{startState, play, replay}
-use Rattle.firing.proofs.Accept.{accepted-exactly}
+use Rattle.run.specs.Run.{firingsOf}
+use Rattle.firing.specs.Replay.{startState, play}
+use Rattle.firing.proofs.Accept.{replay-plays, accepted-exactly}
 use Rattle.firing.proofs.Rules as rules
 use Rattle.timing.proofs.Timings.{run-timing}
 use Rattle.timing.proofs.RunClocks.{clock-restart, clock-origin, end-clock-restart}
@@ -25,14 +24,8 @@ carry-keeps = (rules.carry-keeps, rules.carry-clock)
 pub carry-restarting : CarryRestarting
 carry-restarting = rules.rule-restarting
 
--- a run is replayed by its firings, and then rests
-plays : (net : Net) (restarts : Restart) (r : Run)
-    → replay net restarts r .checked ≡ play net restarts (r .denominator) (firingsOf r) (startState net) 0 .checked
-unfolding replay
-plays net restarts r = refl
-
 pub any-rule-accepts : AnyRuleAccepts
-any-rule-accepts net restarts r = rw (plays net restarts r) (run-timing net restarts (r .denominator) (firingsOf r))
+any-rule-accepts net restarts r = rw (replay-plays net restarts r) (run-timing net restarts (r .denominator) (firingsOf r))
 
 -- what the published semantics allows under a word is what has the windows' timing
 allows-timing : (net : Net) (r : Run) → Allows net r ↔ WithTiming net r
@@ -57,7 +50,7 @@ word-accepts = (
 
 pub clock-counts : ClockCounts
 clock-counts net restarts r e =
-    let p : play net restarts (r .denominator) (firingsOf r) (startState net) 0 .checked ≡ Passed = rw (plays net restarts r) at e in
+    let p : play net restarts (r .denominator) (firingsOf r) (startState net) 0 .checked ≡ Passed = rw (replay-plays net restarts r) at e in
     record {
       each-clock = clock-restart net restarts (r .denominator) (firingsOf r) p;
       next-clock = clock-origin net restarts (r .denominator) (firingsOf r) p;

@@ -61,7 +61,7 @@ module _ {a b : Net} (s : SameNet a b) where
     abbrev other : Played
     other = replay b (ruleOf (arcsOf b) (q .memory)) q
 
-    replays-same : one ≡ other
+    pub replays-same : one ≡ other
     replays-same =
         same-replay s (r .memory) r ∙ same-run b (ruleOf (arcsOf b) (r .memory)) t
         ∙ ap (λ (m : Memory). replay b (ruleOf (arcsOf b) m) q) (t .memory)

@@ -6,10 +6,11 @@ use mathlib.Core.Logic.{_↔_}
 use mathlib.Core.List.{List, _++_}
 use lib.ListN.{length, getD, take}
 use Rattle.reply.specs.declared.Refusal.{Refusal}
-use Rattle.reply.specs.declared.Refusal.the-variants.{Untimable, OutputTooShort}
+use Rattle.reply.specs.declared.Refusal.the-variants.{Untimable}
 use Rattle.reply.specs.declared.Checked.the-variants as checked
-use Rattle.reply.specs.declared.Reply.the-variants.{Written, Refused}
-use Rattle.reply.specs.Respond.{answer, refusal, Answered, replyTo, Responded, Filled}
+use Rattle.reply.specs.declared.Reply.the-variants.{Refused}
+use Rattle.reply.specs.Respond.{answer, refusal, Answered, replyTo}
+use Rattle.reply.specs.Demanded.{Demanded}
 use Rattle.form.specs.Form.{found, refused}
 use Rattle.net.specs.declared.Net.{Net}
 use Rattle.net.specs.Net.{netCard, netText}
@@ -38,31 +39,9 @@ abbrev pub ruleFor : Net → Memory → Restart
 ruleFor net memory = ruleOf (arcsOf net) memory
 
 -- ======== demand 1
-module _ (op : Operation) where
-  -- "answered in full": n bytes are written exactly where there is an answer of n bytes and the output holds them
-  abbrev pub WrittenExactly : Type 0
-  WrittenExactly =
-      (out : List ℕ) (n : ℕ) → (replyTo (outcomeOf op) out ≡ Written n)
-      ↔ ((bytes : List ℕ) × (outcomeOf op ≡ answer bytes) × (n ≡ length bytes) × (n ≤ length out))
-
-  -- "with every written byte settled and the rest of the output untouched"
-  abbrev pub BytesSettled : Type 0
-  BytesSettled =
-      (out after : List ℕ) (n : ℕ) → Responded (outcomeOf op) out (Written n) after
-      → (bytes : List ℕ) × (outcomeOf op ≡ answer bytes) × Filled bytes out after n
-
-  -- "Anything else gets a refusal number and a place", the same whatever the output
-  abbrev pub RefusedExactly : Type 0
-  RefusedExactly = (out : List ℕ) (r : Refusal) → (r ≡ OutputTooShort → ⊥) → (replyTo (outcomeOf op) out ≡ Refused r) ↔ (outcomeOf op ≡ refusal r)
-
-  -- number 9: exactly when there is an answer and it is longer than the output
-  abbrev pub TooShortExactly : Type 0
-  TooShortExactly =
-      (out : List ℕ) → (replyTo (outcomeOf op) out ≡ Refused OutputTooShort) ↔ ((bytes : List ℕ) × (outcomeOf op ≡ answer bytes) × (length out < length bytes))
-
-  -- "with no lent byte altered"
-  abbrev pub NothingAltered : Type 0
-  NothingAltered = (out after : List ℕ) (r : Refusal) → Responded (outcomeOf op) out (Refused r) after → after ≡ out
+-- what is asked of every reply (reply/specs/Demanded.antt)
+abbrev pub EveryReply : Type 0
+EveryReply = (op : Operation) → Demanded (outcomeOf op)
 
 -- "by the printed order of checks": cards before firings, and of a value the refusal of its card, in which a number too long to write is outside its range
 abbrev pub RunAsCards : Type 0

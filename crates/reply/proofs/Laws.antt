@@ -15,6 +15,7 @@ use Rattle.reply.specs.declared.Checked.{Checked}
 use Rattle.reply.specs.declared.Checked.the-variants as checked
 use Rattle.reply.specs.declared.Reply.the-variants.{Written, Refused}
 use Rattle.reply.specs.Respond.{Outcome, answer, refusal, writtenIf, replyTo, outputOf, Responded, Filled}
+use Rattle.reply.specs.Demanded.{Demanded}
 
 -- the output where the reply is a refusal
 refused-alters-nothing : (o : Outcome) (out : List ℕ) (r : Refusal) → replyTo o out ≡ Refused r → outputOf o out ≡ out
@@ -41,7 +42,7 @@ written-fills bytes out n = go (ltb (length out) (length bytes)) refl
         }
 
 -- 9 exactly when there is an answer and it is longer than the output, of an operation that finds no 9 of its own
-pub too-short-exactly : (o : Outcome) → (o ≡ refusal OutputTooShort → ⊥) → (out : List ℕ)
+too-short-exactly : (o : Outcome) → (o ≡ refusal OutputTooShort → ⊥) → (out : List ℕ)
     → (replyTo o out ≡ Refused OutputTooShort) ↔ ((bytes : List ℕ) × (o ≡ answer bytes) × (length out < length bytes))
 too-short-exactly o own out = (there o own, λ h. rw (h .1, lt-ltb (length out) (length (h .0)) (h .2)) refl)
   where
@@ -65,7 +66,7 @@ refused-exactly (answer bytes) r other out = (go (ltb (length out) (length bytes
 refused-exactly (refusal r′) r other out = (λ e. cc, λ e. cc)
 
 -- n bytes are written exactly where there is an answer of n bytes and the output holds them
-pub written-exactly : (o : Outcome) (out : List ℕ) (n : ℕ)
+written-exactly : (o : Outcome) (out : List ℕ) (n : ℕ)
     → (replyTo o out ≡ Written n) ↔ ((bytes : List ℕ) × (o ≡ answer bytes) × (n ≡ length bytes) × (n ≤ length out))
 written-exactly o out n = (there o, λ h. rw (h .1, h .2, le-ltb (length out) (length (h .0)) (rw (h .2) at (h .3))) refl)
   where
@@ -74,7 +75,7 @@ written-exactly o out n = (there o, λ h. rw (h .1, h .2, le-ltb (length out) (l
     there (refusal r) e = let z : _≡_ {A = ℕ} 0 1 = cc in absurd (omega arith)
 
 -- what is written stands at the front, and the bytes behind it stay
-pub bytes-settled : (o : Outcome) (out after : List ℕ) (n : ℕ) → Responded o out (Written n) after
+bytes-settled : (o : Outcome) (out after : List ℕ) (n : ℕ) → Responded o out (Written n) after
     → (bytes : List ℕ) × (o ≡ answer bytes) × Filled bytes out after n
 bytes-settled o out after n w = go o (sym (w .reply)) (w .output)
   where
@@ -83,8 +84,19 @@ bytes-settled o out after n w = go o (sym (w .reply)) (w .output)
     go (refusal r) e h = let z : _≡_ {A = ℕ} 0 1 = cc in absurd (omega arith)
 
 -- nothing is altered by a refusal
-pub nothing-altered : (o : Outcome) (out after : List ℕ) (r : Refusal) → Responded o out (Refused r) after → after ≡ out
+nothing-altered : (o : Outcome) (out after : List ℕ) (r : Refusal) → Responded o out (Refused r) after → after ≡ out
 nothing-altered o out after r w = w .output ∙ refused-alters-nothing o out r (sym (w .reply))
+
+-- all that demand 1 asks, of an operation that finds no 9 of its own
+pub demanded : (o : Outcome) → (o ≡ refusal OutputTooShort → ⊥) → Demanded o
+demanded o own =
+    record {
+      written-exactly = written-exactly o;
+      bytes-settled = bytes-settled o;
+      refused-exactly = λ out r other. refused-exactly o r other out;
+      too-short-exactly = too-short-exactly o own;
+      nothing-altered = nothing-altered o;
+    }
 
 -- a text that was written is that of a value that passed
 pub written-answer : (c : Checked) (text : List ℕ) {bytes : List ℕ} → writtenIf c text ≡ answer bytes → (c ≡ checked.Passed) × (text ≡ bytes)

@@ -1,2 +1,3 @@
+pub mod Demanded
 pub mod Refusal
 pub mod Respond

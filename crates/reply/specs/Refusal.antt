@@ -1,8 +1,8 @@
--- Document 01, "Who can cause a refusal": the number and the place of each refusal.
+-- Document 01, "Who can cause a refusal", and document 02: the number and the place of each refusal.
 use Prim.Native.Nat.{ℕ}
 use Rattle.reply.specs.declared.Refusal.{Refusal}
 use Rattle.reply.specs.declared.Refusal.the-variants.{Malformed, OutOfRange, LatestBelowEarliest, NoSuchTransition, NotEnabled, TooManyTokens}
-use Rattle.reply.specs.declared.Refusal.the-variants.{OutsideInterval, Untimable, OutputTooShort}
+use Rattle.reply.specs.declared.Refusal.the-variants.{OutsideInterval, Untimable, OutputTooShort, OtherOrder}
 
 abbrev pub numberOf : Refusal → ℕ
 numberOf (Malformed line) = 1
@@ -14,8 +14,9 @@ numberOf (TooManyTokens firing) = 6
 numberOf (OutsideInterval firing) = 7
 numberOf (Untimable firing) = 8
 numberOf OutputTooShort = 9
+numberOf OtherOrder = 10
 
--- a line of a card from 1, a firing from 1, or 0 where the output is too short
+-- a line of a card from 1, a firing from 1, or 0 where the output is too short or two runs are not of one order
 abbrev pub positionOf : Refusal → ℕ
 positionOf (Malformed line) = line
 positionOf (OutOfRange line) = line
@@ -26,3 +27,4 @@ positionOf (TooManyTokens firing) = firing
 positionOf (OutsideInterval firing) = firing
 positionOf (Untimable firing) = firing
 positionOf OutputTooShort = 0
+positionOf OtherOrder = 0

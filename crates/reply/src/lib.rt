@@ -3,8 +3,8 @@ ghost use mathlib.Core.Path.{_≡_};
 ghost use Rattle.reply.specs.Refusal.{numberOf, positionOf};
 ghost use Rattle.reply.specs.Respond.{Responded, answer};
 
-// Why an operation gives no answer. Each variant but the last holds the place that document 01 prints with it: a line of a card for the
-// first four, a firing for the next four, both from 1.
+// Why an operation gives no answer. The variants hold the place that documents 01 and 02 print with them: a line of a card for the first four, a
+// firing for the next four, both from 1. Those behind them have place 0: an output too short, two runs that are not of one order.
 pub enum Refusal {
     Malformed(usize),
     OutOfRange(usize),
@@ -15,6 +15,7 @@ pub enum Refusal {
     OutsideInterval(usize),
     Untimable(usize),
     OutputTooShort,
+    OtherOrder,
 }
 
 // What a check of a value or of one line says.
@@ -29,7 +30,7 @@ pub enum Reply {
     Refused(Refusal),
 }
 
-// The refusal's number in document 01.
+// The refusal's number in documents 01 and 02.
 pub fn number_of(r: Refusal) -> u32
     ensures { λ n. ⌜ n ≡ numberOf r ⌝ }
 {
@@ -43,10 +44,11 @@ pub fn number_of(r: Refusal) -> u32
         Refusal::OutsideInterval(_) => 7,
         Refusal::Untimable(_) => 8,
         Refusal::OutputTooShort => 9,
+        Refusal::OtherOrder => 10,
     }
 }
 
-// The refusal's place in document 01; 0 where it has none.
+// The refusal's place in documents 01 and 02; 0 where it has none.
 pub fn position_of(r: Refusal) -> usize
     ensures { λ n. ⌜ n ≡ positionOf r ⌝ }
 {
@@ -60,6 +62,7 @@ pub fn position_of(r: Refusal) -> usize
         Refusal::OutsideInterval(firing) => firing,
         Refusal::Untimable(firing) => firing,
         Refusal::OutputTooShort => 0,
+        Refusal::OtherOrder => 0,
     }
 }
 

@@ -3,11 +3,12 @@
 use Prim.Native.Nat.{ℕ, _+_, _*_, _≤_, _<_}
 use native.Mathlib.Nat.{min-eq-left}
 use native.Mathlib.Omega.{arith}
-use mathlib.Core.Path.{_≡_, refl}
+use mathlib.Core.Path.{_≡_, refl, ap, _∙_}
+use mathlib.Core.Bool.{Bool, true, false, _&&_}
 use mathlib.Core.List.{List}
 use lib.ListN.{length, set}
-use lib.Dec.{lit<}
-use borrow.Author.Tests.{le-leb, lt-leb}
+use lib.Dec.{ltb, lit<}
+use borrow.Author.Tests.{le-leb, lt-leb, ltb-true, ltb-false}
 use Rattle.reply.specs.declared.Refusal.{Refusal}
 use Rattle.reply.specs.declared.Refusal.the-variants.{Malformed}
 use Rattle.text.specs.Key.{bytes}
@@ -20,13 +21,14 @@ use Rattle.form.proofs.Answers.{number-found, number-refused, exactly-lines}
 use Rattle.form.proofs.Loops.{Reading, reading-more, reading-refused, reading-done}
 use Rattle.run.specs.declared.Memory.{Memory}
 use Rattle.run.specs.declared.Firing.{Firing}
+use Rattle.run.specs.declared.Run.{Run}
 use Rattle.run.specs.Run.{memory, firings, fire, parts, firing, noFiring, steps, toRun, runCard, toOrder, orderCard}
 use Rattle.run_card.specs.declared.MemoryLine.the-variants as memory-line
 use Rattle.run_card.specs.declared.OneFiring.{OneFiring}
 use Rattle.run_card.specs.declared.OneFiring.the-variants as one-firing
 use Rattle.run_card.specs.declared.RunRead.{RunRead}
 use Rattle.run_card.specs.declared.OrderRead.{OrderRead}
-use Rattle.run_card.specs.Code.{memoryLine, oneFiring, runRead, orderRead, runFrom, orderFrom}
+use Rattle.run_card.specs.Code.{memoryLine, oneFiring, runRead, orderRead, runFrom, wholeIf, runAt, orderFrom}
 
 -- what stands in the first line of both cards
 abbrev memoryRead : List ℕ → Found Memory
@@ -92,6 +94,27 @@ module _ {A : Type 0} {f : Form A} {n : ℕ} {d : A} {s : List ℕ} {at line : �
   times-lines : (k : ℕ) → ((a : A) → f .lines a ≡ k) → times n 64 d f .lines l ≡ k * n
   times-lines k e = rw (min-eq-left (w .room)) (exactly-lines n 64 d f k e l)
 
+-- ---- what follows a run card, where it is to be the whole input
+whole-refused : (whole : Bool) (transitions : ℕ) (s : List ℕ) {r : Refusal} → runRead (refused r) ≡ runRead (wholeIf whole transitions s (refused r))
+whole-refused true transitions s = refl
+whole-refused false transitions s = refl
+
+module _ (whole : Bool) (transitions : ℕ) (s : List ℕ) (run : Run) (end : ℕ) where
+  whole-followed : (whole && ltb end (length s)) ≡ true
+      → refused (Malformed (1 + runCard transitions .lines run)) ≡ wholeIf whole transitions s (found run end)
+  whole-followed = go whole
+    where
+      go : (b : Bool) → (b && ltb end (length s)) ≡ true → refused (Malformed (1 + runCard transitions .lines run)) ≡ wholeIf b transitions s (found run end)
+      go true f = rw (lt-leb (length s) end (ltb-true end (length s) f)) refl
+      go false f = let z : _≡_ {A = ℕ} 0 1 = cc in absurd (omega arith)
+
+  whole-ended : (whole && ltb end (length s)) ≡ false → found run end ≡ wholeIf whole transitions s (found run end)
+  whole-ended = go whole
+    where
+      go : (b : Bool) → (b && ltb end (length s)) ≡ false → found run end ≡ wholeIf b transitions s (found run end)
+      go true f = rw (le-leb (length s) end (ltb-false end (length s) f)) refl
+      go false f = refl
+
 -- ---- the firings of a run, of which each has two lines, and its rest
 module _ (transitions : ℕ) {count : ℕ} {s : List ℕ} {at : ℕ} {l : List Firing} {i to : ℕ}
     (w : Reading (firing transitions) count 64 noFiring s at 4 l i to (4 + 2 * i)) where
@@ -105,13 +128,13 @@ module _ (transitions : ℕ) {count : ℕ} {s : List ℕ} {at : ℕ} {l : List F
       let q : 4 + 2 * i + 2 ≡ 4 + 2 * (i + 1) = omega arith in
       rw q at (reading-more w h (firing-found nextFiring e))
 
-  module _ (m : Memory) (d : ℕ) where
+  module _ (whole : Bool) (m : Memory) (d : ℕ) where
     -- what is said for what stands in these lines
     abbrev runTold : RunRead
-    runTold = runRead (ended (runCard transitions) s (runFrom m d count (steps transitions count .read s at 4)))
+    runTold = runRead (wholeIf whole transitions s (runFrom m d count (steps transitions count .read s at 4)))
 
     pub firing-stopped : i < count → {r : Refusal} → oneFiring nextFiring ≡ one-firing.Refused r → runRead (refused r) ≡ runTold
-    firing-stopped h e = rw (times-stopped w h (firing-refused nextFiring e))
+    firing-stopped h e = whole-refused whole transitions s ∙ rw (times-stopped w h (firing-refused nextFiring e)) refl
 
     module _ (h : count ≤ i) where
       -- what stands in the line `rest`
@@ -123,19 +146,25 @@ module _ (transitions : ℕ) {count : ℕ} {s : List ℕ} {at : ℕ} {l : List F
       rest-left = rw (times-read w h, times-lines w 2 (λ f. refl))
 
       pub rest-stopped : {r : Refusal} → numberLine restRead ≡ Refused r → runRead (refused r) ≡ runTold
-      rest-stopped e = rw (rest-left, number-refused restRead e)
+      rest-stopped e = whole-refused whole transitions s ∙ rw (rest-left, number-refused restRead e) refl
 
       module _ {rest end : ℕ} (e : numberLine restRead ≡ Value rest end) where
-        pub run-followed : end < length s → runRead (refused (Malformed (5 + 2 * count))) ≡ runTold
-        run-followed h′ =
+        -- the run of these lines
+        read-run : runFrom m d count (steps transitions count .read s at 4) ≡ found (toRun (m, (d, (count, (l, rest))))) end
+        read-run = rw (rest-left, number-found restRead e) refl
+
+        pub run-followed : (whole && ltb end (length s)) ≡ true → runRead (refused (Malformed (5 + 2 * count))) ≡ runTold
+        run-followed f =
             let run = toRun (m, (d, (count, (l, rest)))) in
             let line : 1 + runCard transitions .lines run ≡ 5 + 2 * count = omega (arith, times-lines w 2 (λ f. refl)) in
-            rw (rest-left, number-found restRead e, lt-leb (length s) end h′, line)
+            rw (read-run, ← line) (ap runRead (whole-followed whole transitions s run end f))
 
         -- what was filled in is the run of these lines
-        pub run-whole : {m′ : Memory} {d′ n : ℕ} → (m′ ≡ m) × (d′ ≡ d) × (n ≡ count) → length s ≤ end
+        pub run-whole : {m′ : Memory} {d′ n : ℕ} → (m′ ≡ m) × (d′ ≡ d) × (n ≡ count) → (whole && ltb end (length s)) ≡ false
             → runRead (found (toRun (m′, (d′, (n, (l, rest))))) end) ≡ runTold
-        run-whole p h′ = rw (p .0, p .1, p .2, rest-left, number-found restRead e, le-leb (length s) end h′)
+        run-whole p f =
+            let run = toRun (m, (d, (count, (l, rest)))) in
+            rw (p .0, p .1, p .2, read-run) (ap runRead (whole-ended whole transitions s run end f))
 
 -- ---- the lines `fire` of an order
 module _ (transitions : ℕ) {count : ℕ} {s : List ℕ} {at : ℕ} {l : List ℕ} {i to : ℕ}
@@ -177,13 +206,13 @@ run-together : (m : Memory) (d count : ℕ) (f : Found (List Firing × ℕ)) →
 run-together m d count (found v next) = refl
 run-together m d count (refused r) = refl
 
-module _ (transitions : ℕ) (s : List ℕ) where
+module _ (whole : Bool) (transitions : ℕ) (s : List ℕ) where
   -- what is said for what stands in all lines
   abbrev runSaid : RunRead
-  runSaid = runRead (alone (runCard transitions) s)
+  runSaid = runRead (runAt whole transitions s)
 
   pub run-no-memory : {r : Refusal} → memoryLine (memoryRead s) ≡ memory-line.Refused r → runRead (refused r) ≡ runSaid
-  run-no-memory e = rw (memory-refused (memoryRead s) e)
+  run-no-memory e = whole-refused whole transitions s ∙ rw (memory-refused (memoryRead s) e) refl
 
   module _ {m : Memory} {at : ℕ} (e : memoryLine (memoryRead s) ≡ memory-line.Value m at) where
     -- what stands in the line `denominator`
@@ -191,14 +220,16 @@ module _ (transitions : ℕ) (s : List ℕ) where
     denominatorRead = keyed (bytes "denominator=") (number (ranged 1 1000)) .read s at 2
 
     pub run-no-denominator : {r : Refusal} → numberLine denominatorRead ≡ Refused r → runRead (refused r) ≡ runSaid
-    run-no-denominator z = rw (memory-found (memoryRead s) e, number-refused denominatorRead z)
+    run-no-denominator z = whole-refused whole transitions s ∙ rw (memory-found (memoryRead s) e, number-refused denominatorRead z) refl
 
     module _ {d to : ℕ} (z : numberLine denominatorRead ≡ Value d to) where
       pub run-no-count : {r : Refusal} → numberLine (firings .read s to 3) ≡ Refused r → runRead (refused r) ≡ runSaid
-      run-no-count c = rw (memory-found (memoryRead s) e, number-found denominatorRead z, number-refused (firings .read s to 3) c)
+      run-no-count c =
+          whole-refused whole transitions s
+          ∙ rw (memory-found (memoryRead s) e, number-found denominatorRead z, number-refused (firings .read s to 3) c) refl
 
       pub run-read : {count next : ℕ} → numberLine (firings .read s to 3) ≡ Value count next
-          → runRead (ended (runCard transitions) s (runFrom m d count (steps transitions count .read s next 4))) ≡ runSaid
+          → runRead (wholeIf whole transitions s (runFrom m d count (steps transitions count .read s next 4))) ≡ runSaid
       run-read {count} {next} c =
           rw (memory-found (memoryRead s) e, number-found denominatorRead z, number-found (firings .read s to 3) c)
           (rw (run-together m d count (steps transitions count .read s next 4)))

@@ -1,15 +1,16 @@
 -- What the functions of this crate return, for what the forms find.
 use Prim.Native.Nat.{ℕ}
+use mathlib.Core.Bool.{Bool, true, false}
 use mathlib.Core.List.{List}
 use lib.ListN.{replicate}
-use Rattle.form.specs.Form.{Found, found, refused, andThen}
+use Rattle.form.specs.Form.{Found, found, refused, andThen, front, ended}
 use Rattle.form.specs.Code.{lineRead, valueOr}
 use Rattle.run.specs.declared.Memory.{Memory}
 use Rattle.run.specs.declared.Memory.the-variants.{Intermediate}
 use Rattle.run.specs.declared.Firing.{Firing}
 use Rattle.run.specs.declared.Run.{Run}
 use Rattle.run.specs.declared.Order.{Order}
-use Rattle.run.specs.Run.{noFiring}
+use Rattle.run.specs.Run.{noFiring, runCard}
 use Rattle.run_card.specs.declared.MemoryLine.{MemoryLine}
 use Rattle.run_card.specs.declared.MemoryLine.the-variants as memory-line
 use Rattle.run_card.specs.declared.OneFiring.{OneFiring}
@@ -47,6 +48,14 @@ orderRead f = record { read = lineRead f; order = valueOr noOrder f }
 abbrev pub runFrom : Memory → ℕ → ℕ → Found (List Firing × ℕ) → Found Run
 runFrom memory denominator count f =
     andThen f (λ v next. found (record { memory = memory; denominator = denominator; count = count; firings = v .0; rest = v .1 }) next)
+
+-- a run card: the whole input, so that nothing may follow it, or in front of others
+abbrev pub wholeIf : Bool → ℕ → List ℕ → Found Run → Found Run
+wholeIf true transitions s f = ended (runCard transitions) s f
+wholeIf false transitions s f = f
+
+abbrev pub runAt : Bool → ℕ → List ℕ → Found Run
+runAt whole transitions s = wholeIf whole transitions s (front (runCard transitions) s)
 
 -- an order from the values of its first two lines and what the lines behind them say
 abbrev pub orderFrom : Memory → ℕ → Found (List ℕ) → Found Order

@@ -17,9 +17,10 @@ ghost use Rattle.laws.specs.Writing.{Puts};
 ghost use Rattle.reply.specs.Respond.{Responded};
 ghost use Rattle.text.specs.Key.{bytes};
 ghost use Rattle.form.specs.Form.{keyed, exactly, times, ended, alone, refused};
+ghost use Rattle.form.specs.Code.{behind};
 ghost use Rattle.run.specs.Run.{memory, memoryText, fire, firing, noFiring, steps, toRun, runCard, orderCard};
-ghost use Rattle.cards.specs.Cards.{cardBehind, readRun, readOrder, runChecked, orderChecked, runText, orderText};
-ghost use Rattle.run_card.specs.Code.{memoryLine, oneFiring, runRead, orderRead, runFrom, orderFrom};
+ghost use Rattle.cards.specs.Cards.{readRun, readOrder, runChecked, orderChecked, runText, orderText};
+ghost use Rattle.run_card.specs.Code.{memoryLine, oneFiring, runRead, orderRead, runFrom, wholeIf, runAt, orderFrom};
 
 // The memory rule of a line and the position behind the line, or why there is none.
 enum MemoryLine {
@@ -141,10 +142,10 @@ fn unread_run(head: Heading) -> Run
     }
 }
 
-// A run from its heading and the lines behind that, behind which nothing may follow.
-fn run_from(s: &[u8], at: usize, transitions: usize, head: Heading) -> RunRead
+// A run from its heading and the lines behind that; nothing may follow them where they are to be the whole input.
+fn run_from(s: &[u8], at: usize, transitions: usize, head: Heading, whole: bool) -> RunRead
     requires { ⌜ head .count ≤ 64 ⌝ }
-    ensures { λ r. ⌜ r ≡ runRead (ended (runCard transitions) (now (s .entry))
+    ensures { λ r. ⌜ r ≡ runRead (wholeIf whole transitions (now (s .entry))
         (runFrom (head .memory) (head .denominator) (head .count) (steps transitions (head .count) .read (now (s .entry)) at 4))) ⌝ }
 {
     let count = head.count;
@@ -166,7 +167,7 @@ fn run_from(s: &[u8], at: usize, transitions: usize, head: Heading) -> RunRead
     match n {
         NumberLine::Refused(r) => refused_run(r),
         NumberLine::Value { value, next } => {
-            if next < s.len() {
+            if whole & (next < s.len()) {
                 return refused_run(Refusal::Malformed(5 + 2 * count));
             }
             run.rest = value;
@@ -178,9 +179,9 @@ fn run_from(s: &[u8], at: usize, transitions: usize, head: Heading) -> RunRead
     }
 }
 
-// Reads a run card of a net with so many transitions, behind which nothing may follow.
-pub fn run_card(s: &[u8], transitions: usize) -> RunRead
-    ensures { λ r. ⌜ r ≡ runRead (alone (runCard transitions) (now (s .entry))) ⌝ }
+// Reads a run card of a net with so many transitions: the whole input, or the front of it.
+fn run_lines(s: &[u8], transitions: usize, whole: bool) -> RunRead
+    ensures { λ r. ⌜ r ≡ runRead (runAt whole transitions (now (s .entry))) ⌝ }
 {
     let m = memory_line(s, 0, 1);
     match m {
@@ -205,13 +206,20 @@ pub fn run_card(s: &[u8], transitions: usize) -> RunRead
                                 denominator,
                                 count: count as usize,
                             };
-                            run_from(s, next, transitions, head)
+                            run_from(s, next, transitions, head, whole)
                         }
                     }
                 }
             }
         }
     }
+}
+
+// Reads a run card of a net with so many transitions, behind which nothing may follow.
+pub fn run_card(s: &[u8], transitions: usize) -> RunRead
+    ensures { λ r. ⌜ r ≡ runRead (alone (runCard transitions) (now (s .entry))) ⌝ }
+{
+    run_lines(s, transitions, true)
 }
 
 // What stands for an order whose card is refused.
@@ -313,7 +321,7 @@ fn check_all_firings(firings: [Firing; 64], transitions: usize, count: usize) ->
 }
 
 // A run of a net with so many transitions, as its card would be checked.
-fn check_run_lines(run: Run, transitions: usize) -> Checked
+pub fn check_run_lines(run: Run, transitions: usize) -> Checked
     ensures { λ r. ⌜ r ≡ runCard transitions .check run 1 ⌝ }
 {
     let d = form::check_range(run.denominator as u64, 1, 1000, 2);
@@ -522,19 +530,19 @@ pub fn write_order(net: Net, order: Order, out: &mut [u8]) -> Reply
     }
 }
 
-// Reads the run card behind a net card of which so much was read: from the part of the input behind that, and nothing may follow it.
-pub fn run_behind(s: &[u8], read: LineRead, transitions: usize) -> RunRead
-    ensures { λ r. ⌜ r ≡ runRead (cardBehind (runCard transitions) (now (s .entry)) read) ⌝ }
+// Reads the run card behind a card of which so much was read, from the part of the input behind that: the whole of it, so that nothing may follow, or its front.
+pub fn run_behind(s: &[u8], read: LineRead, transitions: usize, whole: bool) -> RunRead
+    ensures { λ r. ⌜ r ≡ runRead (behind (runAt whole transitions) (now (s .entry)) read) ⌝ }
 {
     match read {
         LineRead::Stopped(why) => refused_run(why),
-        LineRead::Next(_) => run_card(net_card::remainder(s, read), transitions),
+        LineRead::Next(_) => run_lines(net_card::remainder(s, read), transitions, whole),
     }
 }
 
-// Reads the order card behind a net card of which so much was read, likewise.
+// Reads the order card behind a net card of which so much was read, likewise; nothing may follow it.
 pub fn order_behind(s: &[u8], read: LineRead, transitions: usize) -> OrderRead
-    ensures { λ r. ⌜ r ≡ orderRead (cardBehind (orderCard transitions) (now (s .entry)) read) ⌝ }
+    ensures { λ r. ⌜ r ≡ orderRead (behind (alone (orderCard transitions)) (now (s .entry)) read) ⌝ }
 {
     match read {
         LineRead::Stopped(why) => refused_order(why),

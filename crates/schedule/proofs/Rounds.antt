@@ -6,21 +6,21 @@ use native.Mathlib.Numerals.{add-one}
 use native.Mathlib.Omega.{arith}
 use mathlib.Core.Path.{_≡_, refl, sym, ap, _∙_}
 use mathlib.Core.List.{List, [], _∷_}
-use lib.ListN.{length, getD, set, take, replicate, List·getD-map}
+use lib.ListN.{length, getD, set, take, replicate}
 use lib.Seq.{take-all}
 use Rattle.laws.specs.Arrays.{Filling, fill-done}
 use Rattle.laws.specs.Division.{div-le, div-sum-le}
-use Rattle.laws.specs.Slots.{padTo, getD-first, pad-next}
+use Rattle.laws.specs.Slots.{padTo, pad-next}
 use Rattle.run.specs.declared.Firing.{Firing}
 use Rattle.run.specs.declared.Run.{Run}
 use Rattle.run.specs.declared.Order.{Order}
 use Rattle.run.specs.Run.{noFiring, firingsOf, orderOf, waitsOf}
-use Rattle.firing.proofs.Places.{length-firings}
+use Rattle.run.proofs.Firings.{length-firings, wait-at, fire-at}
 use Rattle.timing.specs.Windows.{instants}
 use Rattle.timing.specs.Schedule.{roundedFrom, roundedWaits}
 use Rattle.timing.specs.Rounding.{zipFirings, lastInstant, roundedRun}
 use Rattle.timing.proofs.Meet.{instants-zero, length-waits}
-use Rattle.timing.proofs.Instants.{length-rounded}
+use Rattle.timing.proofs.Instants.{instants-next, length-rounded}
 use Rattle.timing.proofs.Rounded.{zip-entry, rounded-sizes, count-rounded}
 use Rattle.schedule.specs.Timetable.{timedFiring, timedRun}
 
@@ -34,12 +34,6 @@ whole-short zero s w = rw (div-zero s, div-zero (s + w)) (omega arith)
 whole-short (suc D) s w = omega (arith, div-sum-le (suc D) (omega arith) s w)
 
 -- ---- entries
-instants-next : (ws : List ℕ) (i : ℕ) → instants ws (suc i) ≡ instants ws i + getD ws i 0
-unfolding instants
-instants-next [] i = refl
-instants-next (w ∷ ws) zero = omega (arith, instants-zero ws)
-instants-next (w ∷ ws) (suc i) = omega (arith, instants-next ws i)
-
 rounded-entry : (D s : ℕ) (ws : List ℕ) (i : ℕ) → i < length ws
     → getD (roundedFrom D s ws) i 0 ≡ (s + instants ws i + getD ws i 0) / D - (s + instants ws i) / D
 unfolding roundedFrom instants
@@ -73,36 +67,24 @@ module _ (r : Run) where
     next = getD (r .firings) i noFiring
 
     module _ (l : i < min (r .count) 64) where
-      firing-at : getD fs i noFiring ≡ next
-      unfolding firingsOf
-      firing-at = getD-first (min (r .count) 64) noFiring (r .firings) i l
-
-      wait-at : getD (waitsOf fs) i 0 ≡ next .wait
-      unfolding waitsOf
-      wait-at = List·getD-map (λ (f : Firing). f .wait) fs i noFiring ∙ ap (λ (f : Firing). f .wait) firing-at
-
-      fire-at : getD (orderOf fs) i 0 ≡ next .fire
-      unfolding orderOf
-      fire-at = List·getD-map (λ (f : Firing). f .fire) fs i noFiring ∙ ap (λ (f : Firing). f .fire) firing-at
-
       rounded-at : getD (roundedWaits D (waitsOf fs)) i 0 ≡ (s + next .wait) / D - s / D
       unfolding roundedWaits
       rounded-at =
           rounded-entry D 0 (waitsOf fs) i (omega (arith, length-waits fs, length-firings r))
-          ∙ rw (zero-add (instants (waitsOf fs) i), ← h .instant, wait-at) refl
+          ∙ rw (zero-add (instants (waitsOf fs) i), ← h .instant, wait-at r i l) refl
 
       entry-at : getD gs i noFiring ≡ record { wait = (s + next .wait) / D - s / D; fire = next .fire }
       entry-at =
           zip-entry (roundedWaits D (waitsOf fs)) (orderOf fs) i (omega (arith, length-rounded D (waitsOf fs), length-waits fs, length-firings r))
           (rounded-sizes r)
-          ∙ rw (rounded-at, fire-at) refl
+          ∙ rw (rounded-at, fire-at r i l) refl
 
       pub rounding-more : {w : ℕ} → next .wait ≤ 4294967295 → w ≡ (s + next .wait) / D - s / D
           → Rounding (set firings i (record { wait = w; fire = next .fire })) (s + next .wait) (i + 1)
       rounding-more short e =
           record {
             within = omega arith;
-            instant = rw add-one (omega (arith, instants-next (waitsOf fs) i, wait-at, h .instant));
+            instant = rw add-one (omega (arith, instants-next (waitsOf fs) i, wait-at r i l, h .instant));
             soon = omega (arith, h .soon);
             stored = rw (h .stored, e, ← entry-at) (pad-next 64 noFiring gs i (omega (arith, count-rounded r))
                 (omega (arith, count-rounded r, min-le-right (r .count) 64)));

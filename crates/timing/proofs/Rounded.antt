@@ -24,7 +24,7 @@ use Rattle.firing.specs.Semantics.{arcsOf, Restart, transitionAt, Timed, ruleOf
 use Rattle.firing.specs.Replay.{startState, play, replay}
 use Rattle.firing.proofs.Accept.{played-exactly}
 use Rattle.firing.proofs.Rules.{rule-restarting}
-use Rattle.firing.proofs.Places.{length-firings}
+use Rattle.run.proofs.Firings.{length-firings}
 use Rattle.timing.specs.Windows.{instants, Timing}
 use Rattle.timing.specs.Schedule.{timed, schedule, roundedFrom, roundedWaits}
 use Rattle.timing.specs.Rounding.{zipFirings, lastInstant, endInstant, roundedRun, timetableRun}

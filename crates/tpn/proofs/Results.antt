@@ -1,6 +1,6 @@
 -- A result tells the whole reply: an answer's length is not negative, and below 0 number and place are two digits to the base 65,536, of which a place is
 -- one. The replies of an operation with bounds are narrow.
-use Prim.Native.Nat.{ℕ, zero, suc, _+_, _*_, _^_, _≤_, _<_}
+use Prim.Native.Nat.{ℕ, suc, _+_, _-_, _*_, _^_, _≤_, _<_}
 use native.Mathlib.Nat.{lt-trans, lt-of-le-of-lt}
 use native.Mathlib.Omega.{arith}
 use mathlib.Core.Path.{_≡_, refl, sym, ap, _∙_}
@@ -9,14 +9,15 @@ use mathlib.Core.List.{List, [], _∷_}
 use lib.ListN.{getD}
 use lib.Arith.{digits-div, digits-mod}
 use lib.Dec.{lit<}
-use lib.IntN.{ℤ, pos, negsuc, natAbs, pos-ne-negsuc, _-ℤ_, +ℤ-idl}
+use lib.IntN.{ℤ, pos, negsuc, natAbs, pos-ne-negsuc, _-ℤ_}
 use lib.Signed.{nonNeg}
 use mir.Syntax.{w64}
 use mir.Val.{SFits, toZ, ofZ}
 use mir.Facts.{toZ-ofZ, toZ-pos}
+use Rattle.laws.specs.Differences.{difference-less, difference-small}
 use Rattle.reply.specs.declared.Refusal.{Refusal}
 use Rattle.reply.specs.declared.Refusal.the-variants.{Malformed, OutOfRange, LatestBelowEarliest, NoSuchTransition, NotEnabled, TooManyTokens, OutsideInterval}
-use Rattle.reply.specs.declared.Refusal.the-variants.{Untimable, OutputTooShort}
+use Rattle.reply.specs.declared.Refusal.the-variants.{Untimable, OutputTooShort, OtherOrder}
 use Rattle.reply.specs.declared.Reply.{Reply}
 use Rattle.reply.specs.declared.Reply.the-variants.{Written, Refused}
 use Rattle.reply.specs.Refusal.{numberOf, positionOf}
@@ -25,7 +26,7 @@ use Rattle.reply.proofs.Bounds.{Bounds, written-short, refused-placed}
 use Rattle.tpn.specs.Result.{codeOf, resultOf, numberIn, placeIn, Narrow, Returned}
 
 -- ---- a refusal
-pub number-small : (r : Refusal) → (1 ≤ numberOf r) × (numberOf r ≤ 9)
+pub number-small : (r : Refusal) → (1 ≤ numberOf r) × (numberOf r ≤ 20)
 number-small (Malformed line) = (omega arith, omega arith)
 number-small (OutOfRange line) = (omega arith, omega arith)
 number-small (LatestBelowEarliest line) = (omega arith, omega arith)
@@ -35,17 +36,16 @@ number-small (TooManyTokens firing) = (omega arith, omega arith)
 number-small (OutsideInterval firing) = (omega arith, omega arith)
 number-small (Untimable firing) = (omega arith, omega arith)
 number-small OutputTooShort = (omega arith, omega arith)
+number-small OtherOrder = (omega arith, omega arith)
 
-pub code-small : (r : Refusal) → positionOf r < 65536 → codeOf r < 655360
+pub code-small : (r : Refusal) → positionOf r < 65536 → codeOf r < 21 * 65536
 code-small r h = omega (arith, number-small r .1)
-
-below-zero : (k : ℕ) → 1 ≤ k → (n : ℕ) × (pos 0 -ℤ pos k ≡ negsuc n) × (suc n ≡ k)
-below-zero zero h = absurd (omega arith)
-below-zero (suc n) h = (n, +ℤ-idl (negsuc n), refl)
 
 -- a refusal is below 0
 pub refusal-negative : (r : Refusal) → (n : ℕ) × (resultOf (Refused r) ≡ negsuc n) × (suc n ≡ codeOf r)
-refusal-negative r = below-zero (codeOf r) (omega (arith, number-small r .0))
+refusal-negative r =
+    let some : 0 < codeOf r = omega (arith, number-small r .0) in
+    (codeOf r - 1, difference-less 0 (codeOf r) some, omega arith)
 
 -- number and place are read back
 pub number-read-back : (r : Refusal) → positionOf r < 65536 → numberIn (resultOf (Refused r)) ≡ numberOf r
@@ -67,6 +67,8 @@ refusalAt number place =
     ∷ TooManyTokens place
     ∷ OutsideInterval place
     ∷ Untimable place
+    ∷ OutputTooShort
+    ∷ OtherOrder
     ∷ []) number OutputTooShort
 
 refusal-back : (r : Refusal) → refusalAt (numberOf r) (positionOf r) ≡ r
@@ -79,6 +81,7 @@ refusal-back (TooManyTokens firing) = refl
 refusal-back (OutsideInterval firing) = refl
 refusal-back (Untimable firing) = refl
 refusal-back OutputTooShort = refl
+refusal-back OtherOrder = refl
 
 -- ---- an answer
 pub answer-not-negative : (n : ℕ) → nonNeg (resultOf (Written n)) ≡ true
@@ -104,13 +107,12 @@ same-reply (Refused q) (Refused r) h h′ e =
     ap Refused (sym (refusal-back q) ∙ rw (number, place) (refusal-back r))
 
 -- ---- a result has 64 bits
-difference-fits : (k : ℕ) → k < 2 ^ 63 → SFits w64 (pos 0 -ℤ pos k)
-difference-fits zero h = record { sfits = h }
-difference-fits (suc k) h = rw (+ℤ-idl (negsuc k)) (record { sfits = omega arith })
+negative-fits : (k : ℕ) → k < 2 ^ 63 → SFits w64 (pos 0 -ℤ pos k)
+negative-fits k h = record { sfits = difference-small 0 k (2 ^ 63) (lit< tt) h }
 
 result-fits : (x : Reply) → Narrow x → SFits w64 (resultOf x)
 result-fits (Written n) h = record { sfits = lt-trans h (lit< tt) }
-result-fits (Refused r) h = difference-fits (codeOf r) (lt-trans (code-small r h) (lit< tt))
+result-fits (Refused r) h = negative-fits (codeOf r) (lt-trans (code-small r h) (lit< tt))
 
 -- x is the reply that is told
 module _ {x : Reply} (h : Narrow x) where
@@ -126,7 +128,7 @@ module _ {x : Reply} (h : Narrow x) where
     code-fits = rw (m, p) (lt-trans (code-small r (rw e at h)) (lit< tt))
 
     pub refusal-fits : SFits w64 (pos 0 -ℤ toZ w64 (number * 65536 + place))
-    refusal-fits = rw (toZ-pos w64 code-fits) (difference-fits (number * 65536 + place) code-fits)
+    refusal-fits = rw (toZ-pos w64 code-fits) (negative-fits (number * 65536 + place) code-fits)
 
     pub refusal-told : toZ w64 (ofZ w64 (pos 0 -ℤ toZ w64 (number * 65536 + place))) ≡ resultOf x
     refusal-told = toZ-ofZ refusal-fits ∙ rw (toZ-pos w64 code-fits, e, m, p) refl

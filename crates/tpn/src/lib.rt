@@ -1,12 +1,13 @@
 // The operations on cards for programs in other languages: a static library. A `&[u8]` is there a pointer and a length.
-// Each reads a net card and, behind it, a run card (tpn_timetable: an order card), and writes its answer to the front of the output. It returns how many
-// bytes these are, or -(number * 65536 + place) for a refusal, which leaves the output as it was.
+// Each reads a net card and, behind it, a run card (tpn_timetable: an order card; tpn_rank: two run cards), and writes its answer to the front of the
+// output. It returns how many bytes these are, or -(number * 65536 + place) for a refusal, which leaves the output as it was.
 use reply::Reply;
 ghost use mathlib.Core.Path.{_≡_};
 ghost use Rattle.operations.specs.Replay.{replayCards};
 ghost use Rattle.operations.specs.Round.{roundCards};
 ghost use Rattle.operations.specs.Process.{processCards};
 ghost use Rattle.operations.specs.Timetable.{timetableCards};
+ghost use Rattle.ranking.specs.Ranking.{rankCards};
 ghost use Rattle.tpn.specs.Result.{resultOf, Narrow, Returned};
 
 // A reply as one number. Every reply of an operation is narrow.
@@ -58,5 +59,14 @@ pub extern "C" fn tpn_process(input: &[u8], output: &mut [u8]) -> i64
     ensures { λ r. ⌜ Returned (processCards (now (input .entry))) (now (output .entry)) r (now (output .exit)) ⌝ }
 {
     let r = engine::process_cards(input, output);
+    result_of(r)
+}
+
+// Ranks run X among two runs of one order.
+#[no_mangle]
+pub extern "C" fn tpn_rank(input: &[u8], output: &mut [u8]) -> i64
+    ensures { λ r. ⌜ Returned (rankCards (now (input .entry))) (now (output .entry)) r (now (output .exit)) ⌝ }
+{
+    let r = ranking::rank_cards(input, output);
     result_of(r)
 }

@@ -15,6 +15,7 @@ const REPLAY: usize = 0;
 const ROUND: usize = 1;
 const TIMETABLE: usize = 2;
 const PROCESS: usize = 3;
+const RANK: usize = 4;
 
 /// The least time of one sample; the calls of a sample are as many as it takes.
 const SAMPLE: Duration = Duration::from_micros(150);
@@ -58,6 +59,35 @@ fn typical_orders() -> Vec<Vec<u8>> {
     .collect()
 }
 
+fn typical_pairs() -> Vec<Vec<u8>> {
+    let order = |waits: [u64; 3], fire: [usize; 3]| -> Vec<(u64, usize)> {
+        waits.into_iter().zip(fire).collect()
+    };
+    let atomic =
+        |denominator, waits| paper::run(Memory::Atomic, denominator, &order(waits, [0, 0, 1]), 0);
+    let free = |denominator, waits, rest| {
+        let firings = order(waits, [0, 1, 2]);
+        paper::run(Memory::Intermediate, denominator, &firings, rest)
+    };
+    [
+        (paper::net_a(), atomic(1, [1, 1, 1]), atomic(2, [3, 3, 0])),
+        (paper::net_a(), atomic(2, [2, 2, 2]), atomic(3, [3, 3, 3])),
+        (
+            paper::net_b(),
+            free(1, [3, 2, 0], 0),
+            free(4, [13, 7, 0], 0),
+        ),
+        (
+            paper::net_c(),
+            free(1, [1, 0, 2], 0),
+            free(10, [10, 0, 20], 1),
+        ),
+    ]
+    .iter()
+    .map(gen::join_pair)
+    .collect()
+}
+
 fn several(make: impl FnMut() -> Vec<u8>) -> Vec<Vec<u8>> {
     std::iter::repeat_with(make).take(8).collect()
 }
@@ -83,6 +113,16 @@ fn longest_run(memory: Memory) -> (Net, Run) {
     (uniform(255, 100, None, 255), run)
 }
 
+/// Two of the longest runs, of which the end alone differs, by as much as it can.
+fn longest_pair() -> (Net, Run, Run) {
+    let (net, mut x) = longest_run(Memory::Intermediate);
+    x.denominator = 1000;
+    let mut y = x.clone();
+    x.rest = 0;
+    y.rest = 10_000_000;
+    (net, x, y)
+}
+
 /// Every firing takes tokens of two producers from every place.
 fn longest_process() -> (Net, Run) {
     let firings: Vec<(u64, usize)> = (0..64).map(|at| (at, 31 - at as usize % 20)).collect();
@@ -101,15 +141,17 @@ fn workloads() -> Vec<Workload> {
     let rng = &mut Rng::new(2026);
     let large_runs = several(|| gen::join_run(&gen::large_run(rng)));
     let large_orders = several(|| gen::join(&gen::large_order(rng)));
+    let large_pairs = several(|| gen::join_pair(&gen::large_pair(rng)));
     let one = |operation, name, input| Workload {
         operation,
         name,
         inputs: vec![input],
     };
     let mut workloads = Vec::new();
-    for operation in [REPLAY, ROUND, TIMETABLE, PROCESS] {
+    for operation in [REPLAY, ROUND, TIMETABLE, PROCESS, RANK] {
         let (typical, large) = match operation {
             TIMETABLE => (typical_orders(), large_orders.clone()),
+            RANK => (typical_pairs(), large_pairs.clone()),
             _ => (typical_runs(), large_runs.clone()),
         };
         for (name, inputs) in [("typical", typical), ("large", large)] {
@@ -149,6 +191,7 @@ fn workloads() -> Vec<Workload> {
                     gen::join(&gen::drift_to_the_last()),
                 ));
             }
+            RANK => workloads.push(one(operation, longest, gen::join_pair(&longest_pair()))),
             _ => workloads.push(one(operation, longest, gen::join_run(&longest_process()))),
         }
     }
@@ -258,7 +301,7 @@ fn run(other: &Engine, samples: usize) -> bool {
     println!("| operation | input | bytes in | bytes out | plain ns | {} ns | ratio | half of the ratios |", other.name);
     println!("|---|---|---:|---:|---:|---:|---:|---|");
     let mut against = Vec::new();
-    let mut large = [(0.0, 0.0); 4];
+    let mut large = [(0.0, 0.0); OPERATIONS.len()];
     for workload in &workloads {
         let Some(outcome) = outcome(workload, other) else {
             println!(

@@ -1,5 +1,5 @@
-//! `cases DIR [--engine | --naive]`: runs an implementation over a folder of cases, which has a
-//! folder for each operation with inputs NNNN.in and what the program must print, NNNN.out.
+//! `cases DIR [--engine | --naive]`: runs an implementation over a folder of cases, which has
+//! folders named as operations with inputs NNNN.in and what the program must print, NNNN.out.
 
 use harness::{engine::ENGINE, printed, Engine, NAIVE, OPERATIONS, PLAIN};
 use std::path::{Path, PathBuf};
@@ -22,7 +22,11 @@ fn inputs(folder: &Path) -> io::Result<Vec<PathBuf>> {
 fn run(engine: &Engine, folder: &Path) -> io::Result<bool> {
     let (mut passed, mut failed) = (0, 0);
     for (name, operation) in OPERATIONS.iter().zip(engine.operations) {
-        let inputs = inputs(&folder.join(name))?;
+        let folder = folder.join(name);
+        if !folder.is_dir() {
+            continue;
+        }
+        let inputs = inputs(&folder)?;
         let before = passed;
         for path in &inputs {
             let expected = fs::read(path.with_extension("out"))?;

@@ -109,10 +109,10 @@ impl Difference {
 struct Counts {
     inputs: u64,
     calls: u64,
-    answers: [u64; 4],
+    answers: [u64; OPERATIONS.len()],
     refusals: BTreeMap<u64, u64>,
     /// Inputs and answers by kind.
-    kinds: BTreeMap<&'static str, (u64, [u64; 4])>,
+    kinds: BTreeMap<&'static str, (u64, [u64; OPERATIONS.len()])>,
     differences: u64,
 }
 
@@ -144,7 +144,7 @@ struct Comparison {
     other: Side,
     counts: Counts,
     /// The shortest input found for each operation.
-    shortest: [Option<Difference>; 4],
+    shortest: [Option<Difference>; OPERATIONS.len()],
 }
 
 impl Comparison {
@@ -160,7 +160,7 @@ impl Comparison {
             plain: side(PLAIN),
             other: side(other),
             counts: Counts::default(),
-            shortest: [const { None }; 4],
+            shortest: [const { None }; OPERATIONS.len()],
             pattern,
         }
     }

@@ -8,9 +8,10 @@ use std::hint::black_box;
 use std::{env, thread};
 
 /// What docs/EMBEDDING.md asks of a caller, in bytes, an operation each.
-const STACK: [usize; 4] = [16 * 1024, 16 * 1024, 16 * 1024, 40 * 1024];
+const STACK: [usize; OPERATIONS.len()] = [16 * 1024, 16 * 1024, 16 * 1024, 40 * 1024, 16 * 1024];
 
 const TIMETABLE: usize = 2;
+const RANK: usize = 4;
 
 fn inputs(operation: usize) -> Vec<Vec<u8>> {
     let rng = &mut Rng::new(64);
@@ -18,6 +19,7 @@ fn inputs(operation: usize) -> Vec<Vec<u8>> {
     for _ in 0..100 {
         inputs.push(match operation {
             TIMETABLE => gen::join(&gen::large_order(rng)),
+            RANK => gen::join_pair(&gen::large_pair(rng)),
             _ => gen::join_run(&gen::large_run(rng)),
         });
     }
@@ -43,7 +45,7 @@ fn main() {
                 let mut output = vec![0; LONGEST];
                 for input in &inputs {
                     black_box((ENGINE.operations[operation])(input, &mut output));
-                    black_box((ENGINE.operations[operation])(input, &mut output[..100]));
+                    black_box((ENGINE.operations[operation])(input, &mut output[..10]));
                 }
             })
             .expect("a thread")

@@ -16,7 +16,7 @@ const MOST_PARTS: u32 = 10_000_000;
 /// A number for each place; 0 past the places of the net.
 pub type Tokens = [u8; PLACES];
 
-#[derive(Clone, Copy)]
+#[derive(Clone, Copy, PartialEq, Eq)]
 pub enum Memory {
     Intermediate,
     Atomic,
@@ -101,8 +101,22 @@ impl Run {
         }
     }
 
+    /// Fills an empty run from a card with nothing behind it.
     pub fn read(&mut self, input: &[u8], net: &Net) -> Result<(), i64> {
         let mut lines = Lines::new(input);
+        self.read_lines(&mut lines, net)?;
+        lines.end()
+    }
+
+    /// Fills an empty run from the card at the front of the input; the bytes behind it.
+    pub fn read_first<'a>(&mut self, input: &'a [u8], net: &Net) -> Result<&'a [u8], i64> {
+        let mut lines = Lines::new(input);
+        self.read_lines(&mut lines, net)?;
+        Ok(lines.rest)
+    }
+
+    #[inline(always)]
+    fn read_lines(&mut self, lines: &mut Lines, net: &Net) -> Result<(), i64> {
         self.memory = lines.memory()?;
         self.denominator = lines.number(b"denominator=", 1, 1_000)?;
         self.firings = lines.number(b"firings=", 0, FIRINGS as u32)? as usize;
@@ -111,7 +125,7 @@ impl Run {
             *fire = lines.fire(net.transitions)?;
         }
         self.rest = lines.number(b"rest=", 0, MOST_PARTS)?;
-        lines.end()
+        Ok(())
     }
 }
 

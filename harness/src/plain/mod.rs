@@ -1,6 +1,6 @@
-//! The four operations as plain Rust, written for speed from the paper alone.
+//! The five operations as plain Rust, written for speed from the paper alone.
 //!
-//! Each reads both cards in one pass into fixed arrays, steps through the firings, and writes its
+//! Each reads its cards in one pass into fixed arrays, steps through the firings, and writes its
 //! answer into a buffer on the stack, which is copied out once its length is known.
 
 mod card;
@@ -16,6 +16,7 @@ use timing::Timing;
 const REPLAY_LONGEST: usize = 580;
 const RUN_LONGEST: usize = 1_467;
 const PROCESS_LONGEST: usize = 22_000;
+const RANK_LONGEST: usize = 26;
 
 /// The result of a refusal.
 const fn refused(number: u32, place: u32) -> i64 {
@@ -46,6 +47,11 @@ pub fn timetable(input: &[u8], out: &mut [u8]) -> i64 {
 /// The causal process of a run.
 pub fn process(input: &[u8], out: &mut [u8]) -> i64 {
     result(process_outcome(input, out))
+}
+
+/// Which of two runs of one order stands before the other, and by how much.
+pub fn rank(input: &[u8], out: &mut [u8]) -> i64 {
+    result(rank_outcome(input, out))
 }
 
 fn replay_outcome(input: &[u8], out: &mut [u8]) -> Result<i64, i64> {
@@ -186,6 +192,40 @@ fn process_outcome(input: &[u8], out: &mut [u8]) -> Result<i64, i64> {
     }
     text.end_list(list);
     text.copy_to(out)
+}
+
+fn rank_outcome(input: &[u8], out: &mut [u8]) -> Result<i64, i64> {
+    let (mut net, mut x, mut y) = (Net::empty(), Run::empty(), Run::empty());
+    let behind_net = net.read(input)?;
+    let behind_x = x.read_first(behind_net, &net)?;
+    y.read(behind_x, &net)?;
+    replayed(&net, &x)?;
+    replayed(&net, &y)?;
+    if x.memory != y.memory || x.fire[..x.firings] != y.fire[..y.firings] {
+        return Err(refused(10, 0));
+    }
+
+    let lead = lead(&x, &y);
+    let mut text = Text::<RANK_LONGEST>::new();
+    text.push(b"rank=");
+    text.signed(lead.signum(), b'\n');
+    text.push(b"lead=");
+    text.signed(lead, b'\n');
+    text.copy_to(out)
+}
+
+/// The lead of x over y, of the same order, at the first instant that differs, the end included.
+///
+/// Up to there the instants are equal, so that the waits just before it differ by the whole lead.
+fn lead(x: &Run, y: &Run) -> i64 {
+    let after = |wait_x: u32, wait_y: u32| {
+        i64::from(wait_x) * i64::from(y.denominator) - i64::from(wait_y) * i64::from(x.denominator)
+    };
+    let waits = x.wait.iter().zip(&y.wait).take(x.firings);
+    let mut leads = waits.map(|(&wait_x, &wait_y)| after(wait_x, wait_y));
+    leads
+        .find(|&lead| lead != 0)
+        .unwrap_or_else(|| after(x.rest, y.rest))
 }
 
 /// The state after the last firing, and its instant; or the first firing refused.

@@ -61,6 +61,25 @@ impl<const CAPACITY: usize> Text<CAPACITY> {
         self.len += digits + 1;
     }
 
+    /// Appends a number with its minus sign, if it has one, and one more byte.
+    pub fn signed(&mut self, value: i64, end: u8) {
+        if value < 0 {
+            self.push(b"-");
+        }
+        let mut left = value.unsigned_abs();
+        if left < 1_000_000_000 {
+            return self.number(left as u32, end);
+        }
+        let digits = left.ilog10() as usize + 1;
+        let slots = &mut self.bytes[self.len..][..digits + 1];
+        slots[digits].write(end);
+        for slot in slots[..digits].iter_mut().rev() {
+            slot.write(b'0' + (left % 10) as u8);
+            left /= 10;
+        }
+        self.len += digits + 1;
+    }
+
     /// Ends a list that began at `start` and whose items have a comma behind them.
     pub fn end_list(&mut self, start: usize) {
         if self.len == start {

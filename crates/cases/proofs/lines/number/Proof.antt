@@ -1,4 +1,4 @@
--- The value stays below 2 to the 32, since a turn ends before it would not; each turn reads one digit.
+-- The value stays below 2 to the 32; each turn reads one digit.
 use Prim.Native.Nat.{_-_, _<_}
 use lib.ListN.{length}
 use borrow.Author.Needs.{needs}
@@ -16,4 +16,4 @@ number-spec =
     tie.close
     (tie.spec Inv-loop μ-loop (λ c. search needs) (λ c. search needs) (λ c κs. search needs) (λ c. search needs) (λ c. search needs)
     (λ c. search needs) (λ c. search needs) (λ c. search needs) (λ c. search needs) (λ c. search needs) (λ c. search needs) (λ c. search needs)
-    (λ c. search needs) (λ c. search needs) (λ c. search needs))
+    (λ c. search needs))

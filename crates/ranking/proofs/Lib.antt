@@ -1,0 +1,11 @@
+pub mod Bounds
+pub mod Compared
+pub mod Comparing
+pub mod Crossing
+pub mod First
+pub mod Inputs
+pub mod Leads
+pub mod Printing
+pub mod Ranks
+pub mod Request
+pub mod Slots

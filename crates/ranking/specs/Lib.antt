@@ -1,0 +1,4 @@
+pub mod Claims
+pub mod Lead
+pub mod Ranking
+pub mod Request
