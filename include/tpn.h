@@ -2,6 +2,7 @@
  *
  * Each reads a net card and, right behind it, a run card (tpn_timetable: an order card; tpn_rank: two run cards, X's and then Y's) from input, and
  * writes its answer to the front of output.
+ * The line `sheet` in front of a run or order card has the sheet of the net; the run card that tpn_round and tpn_timetable answer has it too.
  * The line `memory` of a run or order card is one of the words intermediate, atomic and carry.
  * A result from 0 up is the number of bytes written; the bytes of output behind them stay as they were.
  * A negative result is a refusal, -(number * 65536 + place), and no byte of output is altered.
@@ -24,7 +25,7 @@ extern "C" {
 #define TPN_PROCESS_MAX 22001
 #define TPN_RANK_MAX 32
 
-/* Refusals. Place: the line within its card from 1 for 1 to 4, the firing from 1 for 5 to 8, 0 for 9 and 10. */
+/* Refusals. Place: the line within its card from 1 for 1 to 4 and 11, the firing from 1 for 5 to 8, 0 for 9 and 10. */
 enum {
     TPN_MALFORMED = 1,
     TPN_OUT_OF_RANGE = 2,
@@ -35,7 +36,8 @@ enum {
     TPN_OUTSIDE_INTERVAL = 7,
     TPN_UNTIMABLE = 8,
     TPN_OUTPUT_TOO_SHORT = 9,
-    TPN_OTHER_ORDER = 10
+    TPN_OTHER_ORDER = 10,
+    TPN_ANOTHER_SHEET = 11
 };
 
 int64_t tpn_replay(const uint8_t *input, size_t input_length, uint8_t *output, size_t output_length);

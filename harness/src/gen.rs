@@ -1,5 +1,5 @@
 //! Seeded inputs for the five operations: nets with runs, orders and pairs of runs that are accepted
-//! often, near misses, orders that are hard to time, damaged cards and junk.
+//! often, near misses, orders that are hard to time, cards on another sheet, damaged cards and junk.
 //!
 //! An input depends on its seed and index only, so each can be made again alone.
 
@@ -7,6 +7,7 @@ mod damage;
 mod hard;
 mod pair;
 mod rng;
+mod sheet;
 
 use crate::naive::{Memory, Net, Order, Run, State, Transition};
 use crate::{plain, Outcome};
@@ -18,6 +19,7 @@ pub use pair::{
     beside_timetable, join_pair, large_pair, near_pair, other_pair, pair, runs_of_one_order,
 };
 pub use rng::Rng;
+pub use sheet::stray_sheet;
 
 /// An input, and what kind it is of.
 pub struct Input {
@@ -30,21 +32,26 @@ pub fn input(seed: u64, index: u64) -> Input {
     let mut rng = Rng::new(Rng::new(seed).draw() ^ index.wrapping_mul(0xd134_2543_de82_ef95));
     let rng = &mut rng;
     let (kind, bytes) = match rng.below(100) {
-        0..=17 => ("run", text_of_run(rng, false)),
-        18..=28 => ("near run", text_of_run(rng, true)),
-        29..=36 => ("order", text_of_order(rng)),
-        37..=44 => ("tight order", join(&tight_order(rng))),
-        45..=50 => ("hard order", join(&hard_order(rng))),
-        51..=62 => ("pair", join_pair(&pair(rng))),
-        63..=67 => ("other pair", join_pair(&other_pair(rng))),
-        68..=72 => ("near pair", join_pair(&near_pair(rng))),
-        73..=96 => {
-            let mut bytes = match rng.below(4) {
-                0 => text_of_order(rng),
-                1 if rng.one_in(3) => join_pair(&near_pair(rng)),
-                1 => join_pair(&pair(rng)),
-                _ => text_of_run(rng, false),
-            };
+        0..=16 => ("run", text_of_run(rng, false)),
+        17..=26 => ("near run", text_of_run(rng, true)),
+        27..=33 => ("order", text_of_order(rng)),
+        34..=40 => ("tight order", join(&tight_order(rng))),
+        41..=45 => ("hard order", join(&hard_order(rng))),
+        46..=56 => ("pair", join_pair(&pair(rng))),
+        57..=61 => ("other pair", join_pair(&other_pair(rng))),
+        62..=66 => ("near pair", join_pair(&near_pair(rng))),
+        67..=74 => {
+            let mut bytes = any_cards(rng);
+            if rng.one_in(6) {
+                damage(rng, &mut bytes);
+            }
+            for _ in 0..rng.pick(&[1, 1, 1, 2]) {
+                stray_sheet(rng, &mut bytes);
+            }
+            ("stray sheet", bytes)
+        }
+        75..=96 => {
+            let mut bytes = any_cards(rng);
             for _ in 0..rng.pick(&[1, 1, 1, 1, 2, 3]) {
                 damage(rng, &mut bytes);
             }
@@ -53,6 +60,16 @@ pub fn input(seed: u64, index: u64) -> Input {
         _ => ("junk", junk(rng)),
     };
     Input { kind, bytes }
+}
+
+/// Cards of a run, an order or a pair of runs, mostly accepted.
+fn any_cards(rng: &mut Rng) -> Vec<u8> {
+    match rng.below(4) {
+        0 => text_of_order(rng),
+        1 if rng.one_in(3) => join_pair(&near_pair(rng)),
+        1 => join_pair(&pair(rng)),
+        _ => text_of_run(rng, false),
+    }
 }
 
 /// A net card with an order card behind it.
@@ -87,6 +104,11 @@ fn size(rng: &mut Rng) -> Size {
 
 fn memory(rng: &mut Rng) -> Memory {
     rng.pick(&[Memory::Intermediate, Memory::Atomic, Memory::Carry])
+}
+
+fn sheet(rng: &mut Rng) -> u64 {
+    let any = rng.within(0, 9999);
+    rng.pick(&[0, 1, 1, 7, any, any, 9999])
 }
 
 fn sizes(rng: &mut Rng, size: Size) -> (usize, usize) {
@@ -181,9 +203,11 @@ pub fn net(rng: &mut Rng, size: Size) -> Net {
             give,
         }
     });
+    let transitions = transitions.collect();
     Net {
+        sheet: sheet(rng),
         start,
-        transitions: transitions.collect(),
+        transitions,
     }
 }
 
@@ -228,6 +252,7 @@ pub fn run(rng: &mut Rng, net: &Net, denominator: u64, firings: usize) -> (Run, 
     let memory = memory(rng);
     let mut state = State::start(net);
     let mut run = Run {
+        sheet: net.sheet,
         memory,
         denominator,
         firings: Vec::new(),
@@ -359,6 +384,7 @@ fn miss(rng: &mut Rng, net: &mut Net, run: &mut Run, end: &State) {
 /// An order that the tokens allow, of at most so many firings, and its last marking.
 fn token_order(rng: &mut Rng, net: &Net, firings: usize) -> (Order, Vec<u64>) {
     let mut order = Order {
+        sheet: net.sheet,
         memory: memory(rng),
         fire: Vec::new(),
     };

@@ -28,12 +28,14 @@ pub struct Transition {
 
 #[derive(Clone, Debug, PartialEq, Eq)]
 pub struct Net {
+    pub sheet: u64,
     pub start: Vec<u64>,
     pub transitions: Vec<Transition>,
 }
 
 #[derive(Clone, Debug, PartialEq, Eq)]
 pub struct Run {
+    pub sheet: u64,
     pub memory: Memory,
     pub denominator: u64,
     /// The wait and the transition of each firing.
@@ -43,6 +45,7 @@ pub struct Run {
 
 #[derive(Clone, Debug, PartialEq, Eq)]
 pub struct Order {
+    pub sheet: u64,
     pub memory: Memory,
     pub fire: Vec<usize>,
 }
@@ -70,7 +73,8 @@ impl Memory {
 impl Net {
     pub fn card(&self) -> String {
         let mut card = format!(
-            "places={}\ntransitions={}\n",
+            "sheet={}\nplaces={}\ntransitions={}\n",
+            self.sheet,
             self.start.len(),
             self.transitions.len()
         );
@@ -93,7 +97,8 @@ impl Net {
 impl Run {
     pub fn card(&self) -> String {
         let mut card = format!(
-            "memory={}\ndenominator={}\nfirings={}\n",
+            "sheet={}\nmemory={}\ndenominator={}\nfirings={}\n",
+            self.sheet,
             self.memory.word(),
             self.denominator,
             self.firings.len()
@@ -107,6 +112,7 @@ impl Run {
 
     pub fn order(&self) -> Order {
         Order {
+            sheet: self.sheet,
             memory: self.memory,
             fire: self.firings.iter().map(|&(_, fire)| fire).collect(),
         }
@@ -129,7 +135,8 @@ impl Run {
 impl Order {
     pub fn card(&self) -> String {
         let mut card = format!(
-            "memory={}\nfirings={}\n",
+            "sheet={}\nmemory={}\nfirings={}\n",
+            self.sheet,
             self.memory.word(),
             self.fire.len()
         );
@@ -147,6 +154,7 @@ impl Order {
             .zip(before)
             .map(|(now, before)| now - before);
         Run {
+            sheet: self.sheet,
             memory: self.memory,
             denominator: 1,
             firings: waits.zip(self.fire.iter().copied()).collect(),
@@ -245,14 +253,33 @@ impl<'a> Lines<'a> {
         })
     }
 
+    fn sheet(&mut self) -> Result<u64, Refusal> {
+        self.number("sheet", 0, 9999)
+    }
+
+    /// The sheet of a run or an order, held against its net's before the next line is looked at.
+    fn same_sheet(&mut self, net: &Net) -> Result<u64, Refusal> {
+        let sheet = self.sheet()?;
+        if sheet == net.sheet {
+            Ok(sheet)
+        } else {
+            self.bad(11)
+        }
+    }
+
     fn net(&mut self) -> Result<Net, Refusal> {
+        let sheet = self.sheet()?;
         let places = self.number("places", 1, 16)? as usize;
         let transitions = self.number("transitions", 1, 32)?;
         let start = (0..places).map(|_| self.number("start", 0, 255));
         let start = start.collect::<Result<_, _>>()?;
         let transitions = (0..transitions).map(|_| self.transition(places));
         let transitions = transitions.collect::<Result<_, _>>()?;
-        Ok(Net { start, transitions })
+        Ok(Net {
+            sheet,
+            start,
+            transitions,
+        })
     }
 
     fn fire(&mut self, net: &Net) -> Result<usize, Refusal> {
@@ -275,6 +302,7 @@ impl<'a> Lines<'a> {
     }
 
     fn run(&mut self, net: &Net) -> Result<Run, Refusal> {
+        let sheet = self.same_sheet(net)?;
         let memory = self.memory()?;
         let denominator = self.number("denominator", 1, 1000)?;
         let mut firings = Vec::new();
@@ -284,6 +312,7 @@ impl<'a> Lines<'a> {
         }
         let rest = self.number("rest", 0, 10_000_000)?;
         Ok(Run {
+            sheet,
             memory,
             denominator,
             firings,
@@ -292,12 +321,17 @@ impl<'a> Lines<'a> {
     }
 
     fn order(&mut self, net: &Net) -> Result<Order, Refusal> {
+        let sheet = self.same_sheet(net)?;
         let memory = self.memory()?;
         let firings = self.number("firings", 0, 64)?;
         let fire = (0..firings).map(|_| self.fire(net));
         let fire = fire.collect::<Result<_, _>>()?;
         self.nothing()?;
-        Ok(Order { memory, fire })
+        Ok(Order {
+            sheet,
+            memory,
+            fire,
+        })
     }
 }
 

@@ -5,8 +5,8 @@ use crate::naive::{Memory, Net, Order, Run, Transition};
 /// The earliest, latest, take and give of a transition.
 type Parts<'a> = (u64, Option<u64>, &'a [u64], &'a [u64]);
 
-/// A net from its start and the parts of its transitions.
-pub fn net(start: &[u64], transitions: &[Parts]) -> Net {
+/// A net from its sheet, its start and the parts of its transitions.
+pub fn net(sheet: u64, start: &[u64], transitions: &[Parts]) -> Net {
     let transitions = transitions
         .iter()
         .map(|&(earliest, latest, take, give)| Transition {
@@ -16,14 +16,16 @@ pub fn net(start: &[u64], transitions: &[Parts]) -> Net {
             give: give.to_vec(),
         });
     Net {
+        sheet,
         start: start.to_vec(),
         transitions: transitions.collect(),
     }
 }
 
-/// Net A: transition 0 is the motor pulse, 1 the closing of the batch.
+/// Net A, on sheet 1: transition 0 is the motor pulse, 1 the closing of the batch.
 pub fn net_a() -> Net {
     net(
+        1,
         &[1, 1],
         &[
             (1, Some(2), &[1, 0], &[1, 0]),
@@ -32,9 +34,10 @@ pub fn net_a() -> Net {
     )
 }
 
-/// Net B, whose first firing must wait for the second.
+/// Net B, on sheet 2, whose first firing must wait for the second.
 pub fn net_b() -> Net {
     net(
+        2,
         &[1, 0, 1],
         &[
             (0, None, &[1, 0, 0], &[0, 1, 0]),
@@ -44,9 +47,10 @@ pub fn net_b() -> Net {
     )
 }
 
-/// Net C, with two firings of which neither needs the other.
+/// Net C, on sheet 3, with two firings of which neither needs the other.
 pub fn net_c() -> Net {
     net(
+        3,
         &[1, 1],
         &[
             (0, None, &[1, 0], &[0, 0]),
@@ -56,20 +60,28 @@ pub fn net_c() -> Net {
     )
 }
 
-/// One transition that takes nothing and gives 255 tokens to an empty place.
+/// One transition that takes nothing and gives 255 tokens to an empty place, on sheet 1.
 pub fn net_255() -> Net {
-    net(&[0], &[(0, None, &[0], &[255])])
+    net(1, &[0], &[(0, None, &[0], &[255])])
 }
 
-pub fn order(memory: Memory, fire: &[usize]) -> Order {
+pub fn order(sheet: u64, memory: Memory, fire: &[usize]) -> Order {
     Order {
+        sheet,
         memory,
         fire: fire.to_vec(),
     }
 }
 
-pub fn run(memory: Memory, denominator: u64, firings: &[(u64, usize)], rest: u64) -> Run {
+pub fn run(
+    sheet: u64,
+    memory: Memory,
+    denominator: u64,
+    firings: &[(u64, usize)],
+    rest: u64,
+) -> Run {
     Run {
+        sheet,
         memory,
         denominator,
         firings: firings.to_vec(),

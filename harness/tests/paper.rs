@@ -25,8 +25,8 @@ fn refuses(program: &str, input: &str, number: u64, place: u64) {
     prints(program, input, &format!("refused={number}|place={place}|"));
 }
 
-/// A run card, from its waits and transitions.
-fn run(memory: &str, denominator: u64, firings: &[(u64, u64)], rest: u64) -> String {
+/// A run card behind its sheet line, from its waits and transitions.
+fn run_lines(memory: &str, denominator: u64, firings: &[(u64, u64)], rest: u64) -> String {
     let lines: String = firings
         .iter()
         .map(|(wait, fire)| format!("wait={wait}|fire={fire}|"))
@@ -35,9 +35,24 @@ fn run(memory: &str, denominator: u64, firings: &[(u64, u64)], rest: u64) -> Str
     format!("memory={memory}|denominator={denominator}|firings={count}|{lines}rest={rest}|")
 }
 
-fn order(memory: &str, fire: &[u64]) -> String {
+/// A run card on sheet 1.
+fn run(memory: &str, denominator: u64, firings: &[(u64, u64)], rest: u64) -> String {
+    on(1, &run_lines(memory, denominator, firings, rest))
+}
+
+fn order_lines(memory: &str, fire: &[u64]) -> String {
     let lines: String = fire.iter().map(|fire| format!("fire={fire}|")).collect();
     format!("memory={memory}|firings={}|{lines}", fire.len())
+}
+
+/// An order card on sheet 1.
+fn order(memory: &str, fire: &[u64]) -> String {
+    on(1, &order_lines(memory, fire))
+}
+
+/// A card from its sheet and the lines behind it.
+fn on(sheet: u64, lines: &str) -> String {
+    format!("sheet={sheet}|{lines}")
 }
 
 /// Checks the instants of a timetable under a memory word.
@@ -52,8 +67,8 @@ fn times(net: &Net, memory: &str, fire: &[u64], instants: &[u64]) {
     let firings: Vec<(u64, u64)> = firings.collect();
     prints(
         "timetable",
-        &(net.card() + &order(memory, fire)),
-        &run(memory, 1, &firings, 0),
+        &(net.card() + &on(net.sheet, &order_lines(memory, fire))),
+        &on(net.sheet, &run_lines(memory, 1, &firings, 0)),
     );
 }
 
@@ -114,7 +129,8 @@ fn session() {
         &atomic,
         "fire=0|from=0.0.1|fire=0|from=0.1.1|fire=1|from=0.2.1,1.0.1|left=none|free=none|",
     );
-    let free = net_c().card() + &run("intermediate", 1, &[(1, 0), (0, 1), (2, 2)], 0);
+    let free = run_lines("intermediate", 1, &[(1, 0), (0, 1), (2, 2)], 0);
+    let free = net_c().card() + &on(3, &free);
     prints(
         "process",
         &free,
@@ -152,7 +168,7 @@ fn numbers_and_lists() {
         ("", 1),
     ] {
         for program in OPERATIONS {
-            refuses(program, &a_with(1, text), number, 1);
+            refuses(program, &a_with(2, text), number, 2);
         }
     }
     for text in [
@@ -166,16 +182,16 @@ fn numbers_and_lists() {
         "take=",
         "take=1,0,",
     ] {
-        refuses("replay", &a_with(7, text), 1, 7);
+        refuses("replay", &a_with(8, text), 1, 8);
     }
     for text in ["take=256,0", "take=0,256", "take=999999999,999999999"] {
-        refuses("replay", &a_with(7, text), 2, 7);
+        refuses("replay", &a_with(8, text), 2, 8);
     }
     refuses(
         "replay",
-        "places=1|transitions=1|start=0|earliest=0|latest=0|take=1,|",
+        "sheet=1|places=1|transitions=1|start=0|earliest=0|latest=0|take=1,|",
         1,
-        6,
+        7,
     );
     for (text, number) in [
         ("latest=1001", 2),
@@ -187,28 +203,31 @@ fn numbers_and_lists() {
         ("latest=", 1),
         ("earliest=3", 1),
     ] {
-        refuses("replay", &a_with(10, text), number, 10);
+        refuses("replay", &a_with(11, text), number, 11);
     }
     for text in ["latest=3", "latest=1000", "latest=inf"] {
-        prints("replay", &a_with(10, text), "end=1,1|clock=0|clock=0|");
+        prints("replay", &a_with(11, text), "end=1,1|clock=0|clock=0|");
     }
-    refuses("replay", &a_with(9, "earliest=inf"), 1, 9);
-    refuses("replay", &a_with(9, "earliest=1001"), 2, 9);
-    refuses("replay", &a_with(9, "earliest=5"), 3, 10);
-    refuses("replay", "places=17|", 2, 1);
-    refuses("replay", "places=2|transitions=33|x", 2, 2);
-    refuses("replay", "places=2|transitions=2", 1, 2);
-    refuses("replay", "transitions=2|places=2|", 1, 1);
+    refuses("replay", &a_with(10, "earliest=inf"), 1, 10);
+    refuses("replay", &a_with(10, "earliest=1001"), 2, 10);
+    refuses("replay", &a_with(10, "earliest=5"), 3, 11);
+    refuses("replay", "sheet=1|places=17|", 2, 2);
+    refuses("replay", "sheet=1|places=2|transitions=33|x", 2, 3);
+    refuses("replay", "sheet=1|places=2|transitions=2", 1, 3);
+    refuses("replay", "sheet=1|transitions=2|places=2|", 1, 2);
 }
 
 #[test]
 fn lines_of_the_second_card() {
     let a = net_a().card();
-    let replay = |card: &str, number, place| refuses("replay", &(a.clone() + card), number, place);
-    let timetable =
-        |card: &str, number, place| refuses("timetable", &(a.clone() + card), number, place);
-    replay("", 1, 1);
+    let replay =
+        |lines: &str, number, place| refuses("replay", &(a.clone() + &on(1, lines)), number, place);
+    let timetable = |lines: &str, number, place| {
+        refuses("timetable", &(a.clone() + &on(1, lines)), number, place)
+    };
+    refuses("replay", &a, 1, 1);
     refuses("replay", "", 1, 1);
+    replay("", 1, 2);
     for word in [
         "Carry|",
         "carr|",
@@ -217,71 +236,72 @@ fn lines_of_the_second_card() {
         "carry",
         "carryatomic|",
     ] {
-        replay(&format!("memory={word}"), 1, 1);
-        timetable(&format!("memory={word}"), 1, 1);
+        replay(&format!("memory={word}"), 1, 2);
+        timetable(&format!("memory={word}"), 1, 2);
     }
-    replay("memory=carry|", 1, 2);
-    timetable("memory=carry|", 1, 2);
-    replay("memory=atomic", 1, 1);
-    replay("memory=atomic|denominator=0|", 2, 2);
-    replay("memory=atomic|denominator=00|", 1, 2);
-    replay("memory=atomic|denominator=1001|", 2, 2);
-    replay("memory=atomic|denominator=1|firings=65|", 2, 3);
+    replay("memory=carry|", 1, 3);
+    timetable("memory=carry|", 1, 3);
+    replay("memory=atomic", 1, 2);
+    replay("memory=atomic|denominator=0|", 2, 3);
+    replay("memory=atomic|denominator=00|", 1, 3);
+    replay("memory=atomic|denominator=1001|", 2, 3);
+    replay("memory=atomic|denominator=1|firings=65|", 2, 4);
     replay(
         "memory=atomic|denominator=1|firings=1|wait=007|fire=0|rest=0|",
         1,
-        4,
+        5,
     );
     replay(
         "memory=atomic|denominator=1|firings=1|wait=10000001|fire=0|rest=0|",
         2,
-        4,
+        5,
     );
     replay(
         "memory=atomic|denominator=1|firings=1|wait=0|fire=2|rest=0|",
         4,
-        5,
+        6,
     );
     replay(
         "memory=atomic|denominator=1|firings=1|wait=0|fire=999999999|rest=0|",
         4,
-        5,
+        6,
     );
     replay(
         "memory=atomic|denominator=1|firings=1|wait=0|fire=1000000000|rest=0|",
         1,
-        5,
+        6,
     );
     replay(
         "memory=atomic|denominator=1|firings=1|wait=0|fire=00|rest=0|",
         1,
-        5,
+        6,
     );
-    replay("memory=atomic|denominator=1|firings=1|wait=0|fire=99", 1, 5);
-    replay("memory=atomic|denominator=1|firings=1|rest=0|", 1, 4);
-    replay("memory=atomic|denominator=1|firings=0|wait=0|", 1, 4);
-    replay("memory=atomic|denominator=1|firings=0|rest=0", 1, 4);
-    replay("memory=atomic|denominator=1|firings=0|rest=10000001", 1, 4);
-    replay("memory=atomic|denominator=1|firings=0|rest=10000001|", 2, 4);
-    replay("memory=atomic|denominator=1|firings=0|rest=0||", 1, 5);
-    replay("memory=atomic|denominator=1|firings=0|rest=0|x", 1, 5);
+    replay("memory=atomic|denominator=1|firings=1|wait=0|fire=99", 1, 6);
+    replay("memory=atomic|denominator=1|firings=1|rest=0|", 1, 5);
+    replay("memory=atomic|denominator=1|firings=0|wait=0|", 1, 5);
+    replay("memory=atomic|denominator=1|firings=0|rest=0", 1, 5);
+    replay("memory=atomic|denominator=1|firings=0|rest=10000001", 1, 5);
+    replay("memory=atomic|denominator=1|firings=0|rest=10000001|", 2, 5);
+    replay("memory=atomic|denominator=1|firings=0|rest=0||", 1, 6);
+    replay("memory=atomic|denominator=1|firings=0|rest=0|x", 1, 6);
     replay(
         "memory=atomic|denominator=1|firings=2|wait=0|fire=1|wait=0|fire=9|rest=0|",
         4,
-        7,
+        8,
     );
-    replay("memory=atomic|firings=0|", 1, 2);
-    timetable("memory=atomic|denominator=1|firings=0|rest=0|", 1, 2);
-    timetable("memory=atomic|firings=65|", 2, 2);
-    timetable("memory=atomic|firings=1|fire=1|fire=0|", 1, 4);
-    timetable("memory=atomic|firings=1|fire=0", 1, 3);
-    timetable("memory=atomic|firings=2|fire=0|", 1, 4);
-    timetable("memory=atomic|firings=1|fire=2|x", 4, 3);
+    replay("memory=atomic|firings=0|", 1, 3);
+    timetable("memory=atomic|denominator=1|firings=0|rest=0|", 1, 3);
+    timetable("memory=atomic|firings=65|", 2, 3);
+    timetable("memory=atomic|firings=1|fire=1|fire=0|", 1, 5);
+    timetable("memory=atomic|firings=1|fire=0", 1, 4);
+    timetable("memory=atomic|firings=2|fire=0|", 1, 5);
+    timetable("memory=atomic|firings=1|fire=2|x", 4, 4);
 }
 
 #[test]
 fn sixty_four_firings() {
     let net = net(
+        1,
         &[1, 1],
         &[(0, None, &[1, 0], &[1, 0]), (0, None, &[0, 1], &[0, 0])],
     );
@@ -293,7 +313,7 @@ fn sixty_four_firings() {
 
 #[test]
 fn firing() {
-    let full = net(&[255], &[(1, Some(1), &[0], &[1])]);
+    let full = net(1, &[255], &[(1, Some(1), &[0], &[1])]);
     refuses(
         "replay",
         &(full.card() + &run("atomic", 1, &[(0, 0)], 0)),
@@ -314,6 +334,7 @@ fn firing() {
         2,
     );
     let both = net(
+        1,
         &[0, 0],
         &[(0, None, &[0, 0], &[255, 0]), (0, None, &[0, 1], &[0, 0])],
     );
@@ -333,11 +354,11 @@ fn firing() {
     b.transitions[0].latest = Some(1);
     refuses(
         "timetable",
-        &(b.card() + &order("atomic", &[0, 1, 2])),
+        &(b.card() + &on(2, &order_lines("atomic", &[0, 1, 2]))),
         8,
         3,
     );
-    let kept = net(&[255], &[(0, None, &[1], &[1])]);
+    let kept = net(1, &[255], &[(0, None, &[1], &[1])]);
     prints(
         "replay",
         &(kept.card() + &run("atomic", 1, &[(0, 0)], 0)),
@@ -345,13 +366,13 @@ fn firing() {
     );
     for memory in ["intermediate", "atomic"] {
         times(
-            &net(&[2], &[(3, Some(3), &[1], &[0])]),
+            &net(1, &[2], &[(3, Some(3), &[1], &[0])]),
             memory,
             &[0, 0],
             &[3, 6],
         );
         times(
-            &net(&[1], &[(1, Some(2), &[0], &[0])]),
+            &net(1, &[1], &[(1, Some(2), &[0], &[0])]),
             memory,
             &[0, 0, 0],
             &[1, 2, 3],
@@ -372,7 +393,7 @@ fn firing() {
         &(a.card() + &run("atomic", 2, &[], 3)),
         &run("atomic", 1, &[], 1),
     );
-    let pulse = net(&[1], &[(0, None, &[1], &[1])]);
+    let pulse = net(1, &[1], &[(0, None, &[1], &[1])]);
     let halves = pulse.card() + &run("atomic", 2, &[(1, 0), (1, 0)], 0);
     prints("round", &halves, &run("atomic", 1, &[(0, 0), (1, 0)], 0));
 }
@@ -383,7 +404,11 @@ fn carry() {
     let a = net_a();
     times(&a, "carry", &[0, 0], &[1, 1]);
     times(&a, "carry", &[0, 0, 1], &[1, 1, 3]);
-    let two = net(&[1], &[(1, Some(1), &[1], &[1]), (2, Some(2), &[1], &[1])]);
+    let two = net(
+        1,
+        &[1],
+        &[(1, Some(1), &[1], &[1]), (2, Some(2), &[1], &[1])],
+    );
     refuses(
         "timetable",
         &(two.card() + &order("carry", &[0, 1, 0])),
@@ -395,11 +420,12 @@ fn carry() {
     times(&two, "carry", &[0, 0, 1], &[1, 1, 2]);
     times(&two, "atomic", &[0, 0, 1], &[1, 2, 2]);
     times(&two, "intermediate", &[0, 0, 1], &[1, 2, 4]);
-    let taken = net(&[2], &[(3, Some(3), &[1], &[0])]);
+    let taken = net(1, &[2], &[(3, Some(3), &[1], &[0])]);
     times(&taken, "carry", &[0, 0], &[3, 3]);
-    let free = net(&[1], &[(1, Some(2), &[0], &[0])]);
+    let free = net(1, &[1], &[(1, Some(2), &[0], &[0])]);
     times(&free, "carry", &[0, 0, 0], &[1, 1, 1]);
     let away = net(
+        1,
         &[1, 0],
         &[
             (0, None, &[1, 0], &[0, 1]),
@@ -432,36 +458,179 @@ fn carry() {
     refuses("round", &(a.card() + &run("atomic", 2, &halves, 0)), 7, 2);
 }
 
+/// Net A on another sheet.
+fn a_on(sheet: u64) -> String {
+    let net = Net { sheet, ..net_a() };
+    net.card()
+}
+
+/// The session on paper, with the sheet line that document 02 adds.
+#[test]
+fn session_with_sheets() {
+    let card = "sheet=1|places=2|transitions=2|start=1|start=1|\
+        earliest=1|latest=2|take=1,0|give=1,0|earliest=3|latest=4|take=1,1|give=0,0|\
+        sheet=1|memory=atomic|firings=3|fire=0|fire=0|fire=1|";
+    let answer = "sheet=1|memory=atomic|denominator=1|firings=3|\
+        wait=1|fire=0|wait=1|fire=0|wait=1|fire=1|rest=0|";
+    prints("timetable", card, answer);
+}
+
+#[test]
+fn sheet_of_the_second_card() {
+    let a = a_on(7);
+    let order = order_lines("atomic", &[0, 0, 1]);
+    let run = run_lines("atomic", 2, &[(3, 0), (3, 0), (0, 1)], 0);
+    let rounded = run_lines("atomic", 1, &[(1, 0), (2, 0), (0, 1)], 0);
+    refuses("timetable", &(a.clone() + &on(8, &order)), 11, 1);
+    for program in OPERATIONS {
+        let refused = |card: &str, number, place| {
+            refuses(program, &(a.clone() + card), number, place);
+        };
+        // Another sheet, whatever stands behind that line, and before every replay.
+        let late = run_lines("intermediate", 1, &[(0, 1)], 0);
+        let absent = order_lines("atomic", &[1, 0]);
+        for lines in [&run, &order, &late, &absent, "memory=atomik|", "", "x", "|"] {
+            refused(&on(8, lines), 11, 1);
+            refused(&on(6, lines), 11, 1);
+            refused(&on(0, lines), 11, 1);
+            refused(&on(9999, lines), 11, 1);
+            refused(&on(70, lines), 11, 1);
+            refused(&on(7 + 256, lines), 11, 1);
+            refused(&on(10_000, lines), 2, 1);
+            refused(&on(65_536 + 7, lines), 2, 1);
+            refused(&on(999_999_999, lines), 2, 1);
+            for line in [
+                "sheet=0007|",
+                "sheet=07|",
+                "sheet=7,|",
+                "sheet=7,7|",
+                "sheet=|",
+                "sheet=+7|",
+                "sheet= 7|",
+                "sheet=7 |",
+                "sheet=7\r|",
+                "sheet=-7|",
+                "sheet=1000000000|",
+                "sheet=4294967303|",
+                "Sheet=7|",
+                "sheets=7|",
+                "sheet:7|",
+                "sheet|",
+                "|",
+            ] {
+                refused(&(line.to_owned() + lines), 1, 1);
+            }
+        }
+        refused(&run, 1, 1);
+        refused(&order, 1, 1);
+        refused("sheet=7", 1, 1);
+        refused("sheet=8", 1, 1);
+        refused("sheet=10000", 1, 1);
+        refused("sheet=7|", 1, 2);
+        refused(&on(7, &on(7, &run)), 1, 2);
+        refused(&on(7, &on(8, &run)), 1, 2);
+        refused(&on(8, &on(7, &run)), 11, 1);
+        refused(&run.replacen('|', "|sheet=7|", 1), 1, 1);
+
+        // The net's own line, before anything of the second card.
+        refuses(program, &(a_on(10_000) + &on(8, &run)), 2, 1);
+        refuses(program, &(a_on(1_000_000_000) + &on(8, &run)), 1, 1);
+        refuses(program, &(a.replacen("sheet=7\n", "", 1) + &run), 1, 1);
+        let doubled = a.replacen("sheet=7\n", "sheet=7\nsheet=7\n", 1);
+        refuses(program, &(doubled + &on(7, &run)), 1, 2);
+        let low = net(7, &[1], &[(2, Some(1), &[0], &[0])]);
+        refuses(program, &(low.card() + &on(8, &run)), 3, 6);
+        refuses(program, "sheet=7", 1, 1);
+        refuses(program, "sheet=7|", 1, 2);
+    }
+
+    // Line places are one further down, those of firings are where they were.
+    let replay = |lines: &str, number, place| {
+        refuses("replay", &(a.clone() + &on(7, lines)), number, place);
+    };
+    replay("memory=atomic|denominator=0|", 2, 3);
+    replay("memory=atomic|denominator=1|firings=65|", 2, 4);
+    replay(&run_lines("atomic", 1, &[(0, 0), (0, 7)], 0), 4, 8);
+    replay(&(run_lines("atomic", 1, &[(1, 0)], 0) + "x"), 1, 8);
+    let pulse = on(7, &order_lines("atomic", &[0]));
+    refuses("timetable", &(a.clone() + &pulse + "|"), 1, 5);
+    let waits = [(3, 0), (3, 0), (0, 1)];
+    replay(&run_lines("intermediate", 2, &waits, 0), 7, 3);
+
+    // Both on one sheet: accepted, and written back as it stands.
+    for sheet in [0, 7, 9999] {
+        let a = a_on(sheet);
+        let timetable = run_lines("atomic", 1, &[(1, 0), (1, 0), (1, 1)], 0);
+        let of = |lines: &str| a.clone() + &on(sheet, lines);
+        prints("timetable", &of(&order), &on(sheet, &timetable));
+        prints("round", &of(&run), &on(sheet, &rounded));
+        prints("replay", &of(&run), "end=0,0|clock=off|clock=off|");
+    }
+}
+
+#[test]
+fn sheets_of_two_runs() {
+    let a = a_on(7);
+    let one = run_lines("atomic", 1, &[(1, 0)], 0);
+    let late = run_lines("atomic", 1, &[(0, 0)], 0);
+    let refused = |x: &str, y: &str, number, place| {
+        refuses("rank", &(a.clone() + x + y), number, place);
+    };
+    let both = a.clone() + &on(7, &one) + &on(7, &one);
+    prints("rank", &both, &ranked(0, 0));
+
+    // X's before Y is read, Y's while it is read and before any replay.
+    refused(&on(8, &one), &on(7, &one), 11, 1);
+    refused(&on(8, &one), &on(8, &one), 11, 1);
+    refused(&on(8, &one), "sheet=0007|", 11, 1);
+    refused(&on(8, &one), "", 11, 1);
+    refused(&on(7, &one), &on(8, &one), 11, 1);
+    refused(&on(7, &late), &on(8, &one), 11, 1);
+    refused(&on(7, &late), &on(8, "memory=atomik|"), 11, 1);
+    refused(&on(7, &one), &on(10_000, &one), 2, 1);
+    refused(&on(7, &one), "sheet=0007|", 1, 1);
+    refused(&on(7, &one), "sheet=8", 1, 1);
+    refused(&on(7, &one), &one, 1, 1);
+    refused(&on(7, &one), &on(7, &on(7, &one)), 1, 2);
+    refused(&on(7, "memory=atomik|"), &on(8, &one), 1, 2);
+    refused(&on(7, &late), &on(7, &one), 7, 1);
+}
+
 #[test]
 fn output() {
     let input = bytes(&(net_a().card() + &order("atomic", &[0, 0, 1])));
     for engine in [PLAIN, NAIVE] {
         let timetable = engine.operations[2];
-        assert_eq!(timetable(&input, &mut [0; 87]), 87);
-        let mut short = [7; 86];
+        assert_eq!(timetable(&input, &mut [0; 95]), 95);
+        let mut short = [7; 94];
         assert_eq!(timetable(&input, &mut short), -9 * 65_536);
-        assert_eq!(short, [7; 86]);
+        assert_eq!(short, [7; 94]);
         let refused = bytes(&(net_a().card() + &order("atomic", &[1, 0])));
         assert_eq!(timetable(&refused, &mut []), -(5 * 65_536 + 2));
+        let long = bytes(&(a_on(9999) + &on(9999, &order_lines("atomic", &[0, 0, 1]))));
+        assert_eq!(timetable(&long, &mut [0; 98]), 98);
+        assert_eq!(timetable(&long, &mut [0; 97]), -9 * 65_536);
+        let other = bytes(&(a_on(9999) + &order("atomic", &[0, 0, 1])));
+        assert_eq!(timetable(&other, &mut []), -(11 * 65_536 + 1));
     }
 }
 
 #[test]
 fn process() {
     let firings = [(0, 0), (0, 1)];
-    let one = net(&[1], &[(0, None, &[0], &[1]), (0, None, &[1], &[0])]);
+    let one = net(1, &[1], &[(0, None, &[0], &[1]), (0, None, &[1], &[0])]);
     prints(
         "process",
         &(one.card() + &run("atomic", 1, &firings, 0)),
         "fire=0|from=none|fire=1|from=0.0.1|left=0.1.1|free=1|",
     );
-    let two = net(&[1], &[(0, None, &[0], &[2]), (0, None, &[2], &[0])]);
+    let two = net(1, &[1], &[(0, None, &[0], &[2]), (0, None, &[2], &[0])]);
     prints(
         "process",
         &(two.card() + &run("atomic", 1, &firings, 0)),
         "fire=0|from=none|fire=1|from=0.0.1,0.1.1|left=0.1.1|free=none|",
     );
-    let given = net(&[0], &[(0, None, &[0], &[1])]);
+    let given = net(1, &[0], &[(0, None, &[0], &[1])]);
     prints(
         "process",
         &(given.card() + &run("atomic", 1, &[(0, 0)], 0)),
@@ -512,7 +681,7 @@ fn rank() {
     ranks(&a, &end(1000, 333), &end(3, 1), -1, -1);
 
     // The first instant that differs decides, whatever comes behind it.
-    let free = net(&[1], &[(0, None, &[1], &[1])]);
+    let free = net(1, &[1], &[(0, None, &[1], &[1])]);
     let pulses = |denominator, waits: &[u64], rest| {
         let firings: Vec<(u64, u64)> = waits.iter().map(|&wait| (wait, 0)).collect();
         run("atomic", denominator, &firings, rest)
@@ -585,9 +754,9 @@ fn rank_refused() {
     refused(&two("atomic"), &late, 7, 1);
 
     // Both cards are read before the first replay, and X is replayed before Y.
-    refused(&late, "memory=atomic|denominator=x|", 1, 2);
+    refused(&late, "sheet=1|memory=atomic|denominator=x|", 1, 3);
     refused(&late, "", 1, 1);
-    refused(&late, &(x.clone() + "|"), 1, 11);
+    refused(&late, &(x.clone() + "|"), 1, 12);
     refused(&x, &late, 7, 1);
     let absent = run("atomic", 1, &[(3, 1), (0, 0)], 0);
     refused(&late, &absent, 7, 1);
@@ -598,22 +767,22 @@ fn rank_refused() {
     // Lines of X's card before those of Y's; nothing may follow Y.
     refused("", "", 1, 1);
     refused(&x, "", 1, 1);
-    refused("memory=atomic|denominator=0|", &x, 2, 2);
-    refused("memory=atomic|denominator=1|firings=0|", &x, 1, 4);
-    refused(&x, "memory=atomic|denominator=1001|", 2, 2);
+    refused("sheet=1|memory=atomic|denominator=0|", &x, 2, 3);
+    refused("sheet=1|memory=atomic|denominator=1|firings=0|", &x, 1, 5);
+    refused(&x, "sheet=1|memory=atomic|denominator=1001|", 2, 3);
     refused(
         &x,
-        "memory=atomic|denominator=1|firings=1|wait=0|fire=2|",
+        "sheet=1|memory=atomic|denominator=1|firings=1|wait=0|fire=2|",
         4,
-        5,
+        6,
     );
     refused(&(x.clone() + "|"), &x, 1, 1);
-    refused(&x, &(x.clone() + "x"), 1, 11);
-    refused(&x, &(x.clone() + &x), 1, 11);
-    refused(&two("atomic"), &(two("atomic") + "|"), 1, 9);
-    refused(&x, &(run("atomic", 1, &[], 0) + "|"), 1, 5);
-    refused(&x, x.strip_suffix('|').unwrap(), 1, 10);
-    refuses("rank", &(a_with(1, "places=0") + &x), 2, 1);
+    refused(&x, &(x.clone() + "x"), 1, 12);
+    refused(&x, &(x.clone() + &x), 1, 12);
+    refused(&two("atomic"), &(two("atomic") + "|"), 1, 10);
+    refused(&x, &(run("atomic", 1, &[], 0) + "|"), 1, 6);
+    refused(&x, x.strip_suffix('|').unwrap(), 1, 11);
+    refuses("rank", &(a_with(2, "places=0") + &x), 2, 2);
 }
 
 #[test]

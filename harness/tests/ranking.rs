@@ -98,6 +98,7 @@ fn ranks_are_transitive() {
 /// All runs of an order at a denominator with no wait and no rest above `most`, found by trying.
 fn runs(net: &Net, memory: Memory, fire: &[usize], denominator: u64, most: u64) -> Vec<Run> {
     let start = Run {
+        sheet: net.sheet,
         memory,
         denominator,
         firings: Vec::new(),
@@ -127,6 +128,7 @@ fn runs(net: &Net, memory: Memory, fire: &[usize], denominator: u64, most: u64) 
 /// The timetable of an order, if it has one.
 fn timetable(net: &Net, memory: Memory, fire: &[usize]) -> Option<Run> {
     let order = naive::Order {
+        sheet: net.sheet,
         memory,
         fire: fire.to_vec(),
     };

@@ -22,6 +22,7 @@ fn small_order(rng: &mut Rng, firings: usize) -> (Net, Order) {
         transition.latest = rng.pick(&[None, Some(latest), Some(latest)]);
     }
     let mut order = Order {
+        sheet: net.sheet,
         memory: rng.pick(&[Memory::Intermediate, Memory::Atomic, Memory::Carry]),
         fire: Vec::new(),
     };
@@ -84,6 +85,7 @@ fn timetables_are_the_least_of_all_timings() {
             let (number, place) = result.unwrap_err();
             assert_eq!(number, 8);
             let prefix = |firings: u64| Order {
+                sheet: order.sheet,
                 memory: order.memory,
                 fire: order.fire[..firings as usize].to_vec(),
             };

@@ -1,7 +1,8 @@
 //! Timed runs of weak time Petri nets.
 //!
 //! Each operation reads a net card and, right behind it, a run card ([`timetable`]: an order card; [`rank`]: two run cards) from its input, and writes
-//! its answer to the front of the output. Nothing is asked of the input; a refusal alters no byte of the output.
+//! its answer to the front of the output. A run or order card has the sheet of its net, which the run card of an answer copies. Nothing is asked of the
+//! input; a refusal alters no byte of the output.
 
 use std::fmt;
 
@@ -35,18 +36,19 @@ pub enum Meaning {
     Untimable = 8,
     OutputTooShort = 9,
     OtherOrder = 10,
+    AnotherSheet = 11,
 }
 
 /// Why there is no answer.
 #[derive(Clone, Copy, Debug, PartialEq, Eq, Hash)]
 pub struct Refusal {
     pub meaning: Meaning,
-    /// The line within its card, from 1, for the first four meanings; the firing, from 1, for the next four; otherwise 0.
+    /// The line within its card, from 1, for the first four meanings and the last; the firing, from 1, for the next four; otherwise 0.
     pub place: u16,
 }
 
 impl Refusal {
-    /// The refusal's number, 1 to 10.
+    /// The refusal's number, 1 to 11.
     pub fn number(self) -> u8 {
         self.meaning as u8
     }
@@ -66,6 +68,7 @@ impl fmt::Display for Refusal {
             Meaning::Untimable => write!(f, "the first {place} firings have no timing"),
             Meaning::OutputTooShort => write!(f, "the output is shorter than the answer"),
             Meaning::OtherOrder => write!(f, "the two runs differ in their memory word or in their order of firings"),
+            Meaning::AnotherSheet => write!(f, "line {place} of a card has another sheet than the net"),
         }
     }
 }
@@ -85,7 +88,8 @@ fn meaning(number: i64) -> Meaning {
         7 => Meaning::OutsideInterval,
         8 => Meaning::Untimable,
         9 => Meaning::OutputTooShort,
-        _ => Meaning::OtherOrder,
+        10 => Meaning::OtherOrder,
+        _ => Meaning::AnotherSheet,
     }
 }
 
@@ -131,7 +135,7 @@ pub fn rank(input: &[u8], output: &mut [u8]) -> Result<usize, Refusal> {
 mod tests {
     use super::*;
 
-    const NET_A: &[u8] = b"places=2\ntransitions=2\nstart=1\nstart=1\nearliest=1\nlatest=2\ntake=1,0\ngive=1,0\nearliest=3\nlatest=4\ntake=1,1\ngive=0,0\n";
+    const NET_A: &[u8] = b"sheet=1\nplaces=2\ntransitions=2\nstart=1\nstart=1\nearliest=1\nlatest=2\ntake=1,0\ngive=1,0\nearliest=3\nlatest=4\ntake=1,1\ngive=0,0\n";
 
     fn input(card: &[u8]) -> Vec<u8> {
         [NET_A, card].concat()
@@ -140,8 +144,8 @@ mod tests {
     #[test]
     fn answers() {
         let mut out = [7u8; TIMETABLE_MAX];
-        let n = timetable(&input(b"memory=atomic\nfirings=1\nfire=0\n"), &mut out).unwrap();
-        assert_eq!(&out[..n], b"memory=atomic\ndenominator=1\nfirings=1\nwait=1\nfire=0\nrest=0\n");
+        let n = timetable(&input(b"sheet=1\nmemory=atomic\nfirings=1\nfire=0\n"), &mut out).unwrap();
+        assert_eq!(&out[..n], b"sheet=1\nmemory=atomic\ndenominator=1\nfirings=1\nwait=1\nfire=0\nrest=0\n");
         assert!(out[n..].iter().all(|b| *b == 7));
     }
 
@@ -149,9 +153,9 @@ mod tests {
     fn memory_words() {
         let mut out = [0u8; TIMETABLE_MAX];
         for (word, wait) in [("intermediate", 1), ("atomic", 1), ("carry", 0)] {
-            let card = format!("memory={word}\nfirings=2\nfire=0\nfire=0\n");
+            let card = format!("sheet=1\nmemory={word}\nfirings=2\nfire=0\nfire=0\n");
             let n = timetable(&input(card.as_bytes()), &mut out).unwrap();
-            let answer = format!("memory={word}\ndenominator=1\nfirings=2\nwait=1\nfire=0\nwait={wait}\nfire=0\nrest=0\n");
+            let answer = format!("sheet=1\nmemory={word}\ndenominator=1\nfirings=2\nwait=1\nfire=0\nwait={wait}\nfire=0\nrest=0\n");
             assert_eq!(out[..n], *answer.as_bytes());
         }
     }
@@ -159,10 +163,10 @@ mod tests {
     #[test]
     fn refusals() {
         let mut out = [7u8; 16];
-        let late = timetable(&input(b"memory=atomic\nfirings=2\nfire=1\nfire=0\n"), &mut out).unwrap_err();
+        let late = timetable(&input(b"sheet=1\nmemory=atomic\nfirings=2\nfire=1\nfire=0\n"), &mut out).unwrap_err();
         assert_eq!((late.meaning, late.place, late.number()), (Meaning::NotEnabled, 2, 5));
         assert_eq!(late.to_string(), "firing 2: the transition is not enabled");
-        let short = timetable(&input(b"memory=atomic\nfirings=0\n"), &mut out).unwrap_err();
+        let short = timetable(&input(b"sheet=1\nmemory=atomic\nfirings=0\n"), &mut out).unwrap_err();
         assert_eq!((short.meaning, short.place), (Meaning::OutputTooShort, 0));
         assert_eq!(
             replay(b"", &mut []).unwrap_err(),
@@ -175,10 +179,26 @@ mod tests {
     }
 
     #[test]
+    fn sheets() {
+        let mut out = [7u8; TIMETABLE_MAX];
+        let order = b"memory=atomic\nfirings=0\n";
+        let of = |sheet: &[u8]| input(&[b"sheet=", sheet, b"\n", order].concat());
+        let other = timetable(&of(b"2"), &mut out).unwrap_err();
+        assert_eq!((other.meaning, other.place, other.number()), (Meaning::AnotherSheet, 1, 11));
+        assert_eq!(other.to_string(), "line 1 of a card has another sheet than the net");
+        assert_eq!(timetable(&of(b"10000"), &mut out).unwrap_err().meaning, Meaning::OutOfRange);
+        assert_eq!(timetable(&of(b"01"), &mut out).unwrap_err().meaning, Meaning::Malformed);
+        assert_eq!(out, [7u8; TIMETABLE_MAX]);
+        let long = [b"sheet=9999\n", &NET_A[8..], b"sheet=9999\n", order].concat();
+        let n = timetable(&long, &mut out).unwrap();
+        assert_eq!(&out[..n], b"sheet=9999\nmemory=atomic\ndenominator=1\nfirings=0\nrest=0\n");
+    }
+
+    #[test]
     fn ranks() {
         let card = |denominator, waits: [u32; 2], rest| {
             let [one, two] = waits;
-            format!("memory=atomic\ndenominator={denominator}\nfirings=2\nwait={one}\nfire=0\nwait={two}\nfire=0\nrest={rest}\n")
+            format!("sheet=1\nmemory=atomic\ndenominator={denominator}\nfirings=2\nwait={one}\nfire=0\nwait={two}\nfire=0\nrest={rest}\n")
         };
         let mut out = [7u8; RANK_MAX];
         let mut answer = |x: &str, y: &str| {
@@ -198,8 +218,8 @@ mod tests {
 
     #[test]
     fn rank_refusals() {
-        let one = "memory=atomic\ndenominator=1\nfirings=1\nwait=1\nfire=0\nrest=0\n";
-        let none = "memory=atomic\ndenominator=1\nfirings=0\nrest=0\n";
+        let one = "sheet=1\nmemory=atomic\ndenominator=1\nfirings=1\nwait=1\nfire=0\nrest=0\n";
+        let none = "sheet=1\nmemory=atomic\ndenominator=1\nfirings=0\nrest=0\n";
         let refused = |cards: &[&str], out: &mut [u8]| {
             let refusal = rank(&input(cards.concat().as_bytes()), out).unwrap_err();
             (refusal.number(), refusal.place)
@@ -209,9 +229,11 @@ mod tests {
         assert_eq!((other.meaning, other.place, other.number()), (Meaning::OtherOrder, 0, 10));
         assert_eq!(other.to_string(), "the two runs differ in their memory word or in their order of firings");
         assert_eq!(refused(&[one, &one.replace("atomic", "carry")], &mut out), (10, 0));
+        assert_eq!(refused(&[one, &one.replace("sheet=1", "sheet=2")], &mut out), (11, 1));
+        assert_eq!(refused(&[&one.replace("sheet=1", "sheet=2"), ""], &mut out), (11, 1));
         assert_eq!(refused(&[one, one], &mut out), (9, 0));
         assert_eq!(refused(&[one], &mut out), (1, 1));
-        assert_eq!(refused(&[one, one, "\n"], &mut out), (1, 7));
+        assert_eq!(refused(&[one, one, "\n"], &mut out), (1, 8));
         assert_eq!(refused(&[one, &one.replace("wait=1", "wait=0")], &mut out), (7, 1));
         assert_eq!(out, [7u8; 13]);
     }

@@ -17,7 +17,19 @@ use Rattle.form.proofs.Row.{Near, front-near, alone-near, follow-near, row-read
 use Rattle.net.specs.declared.Net.{Net}
 use Rattle.net.specs.Net.{netCard}
 use Rattle.net.proofs.Card.{netReach, net-inverse, net-reaches, net-transitions}
-use Rattle.cards.specs.Cards.{onNet, bothCards, inputOf}
+use Rattle.run.specs.Run.{runCard, orderCard}
+use Rattle.run.proofs.Card.{runReach, orderReach, run-format, order-format}
+use Rattle.cards.specs.Cards.{cardOf, onNet, bothCards, inputOf}
+
+-- a card of a net is a format, for every net that has few transitions
+abbrev pub Lawful : {A : Type 0} → (ℕ → ℕ → Form A) → ℕ → ℕ → Type 0
+Lawful card reach most = (net : Net) → Format (net .transitions ≤ 32) (cardOf card net) reach most
+
+pub run-lawful : Lawful runCard runReach 133
+run-lawful net = run-format (net .sheet) (net .transitions)
+
+pub order-lawful : Lawful orderCard orderReach 67
+order-lawful net = order-format (net .sheet) (net .transitions)
 
 on-net-found : {A : Type 0} (c : Checked) (m : Found A) {a : A} {next : ℕ} → onNet c m ≡ found a next → (c ≡ Passed) × (m ≡ found a next)
 on-net-found Passed m e = (refl, e)
@@ -55,24 +67,24 @@ pub read-few : (s : List ℕ) {net : Net} {next : ℕ} → front netCard s ≡ f
 read-few s {net} {next} e = net-transitions net (net-inverse .written-read net s 0 next 1 e .passed) .1
 
 -- a reading of both cards looks at as much as the two readings together
-pub both-near : {A : Type 0} (card : ℕ → Form A) {reach most : ℕ} → ((transitions : ℕ) → Format (transitions ≤ 32) (card transitions) reach most)
+pub both-near : {A : Type 0} (card : ℕ → ℕ → Form A) {reach most : ℕ} → Lawful card reach most
     → Near (bothCards card) (netReach + reach)
-both-near card w = follow-near (front-near net-reaches) (λ s net next e. alone-near (w (net .transitions) .reaches (read-few s e)))
+both-near card w = follow-near (front-near net-reaches) (λ s net next e. alone-near (w net .reaches (read-few s e)))
 
 -- an input that was read as a net card and a card of that net: it is what both write, and they pass their checks
-pub record BothRead {A : Type 0} (card : ℕ → Form A) (v : Net × A) (s : List ℕ) (next : ℕ) : Type 0 where
+pub record BothRead {A : Type 0} (card : ℕ → ℕ → Form A) (v : Net × A) (s : List ℕ) (next : ℕ) : Type 0 where
   pub bytes : inputOf card (v .0) (v .1) ≡ s
   pub end : next ≡ length s
-  pub passed : also (netCard .check (v .0) 1) (card (v .0 .transitions) .check (v .1) 1) ≡ Passed
+  pub passed : also (netCard .check (v .0) 1) (cardOf card (v .0) .check (v .1) 1) ≡ Passed
 
-pub both-was : {A : Type 0} (card : ℕ → Form A) {reach most : ℕ} → ((transitions : ℕ) → Format (transitions ≤ 32) (card transitions) reach most)
+pub both-was : {A : Type 0} (card : ℕ → ℕ → Form A) {reach most : ℕ} → Lawful card reach most
     → (s : List ℕ) {v : Net × A} {next : ℕ}
     → bothCards card s ≡ found v next → BothRead card v s next
 both-was card w s {v} e =
     let text = netCard .text (v .0) in
-    let row = row-read net-inverse (λ net. alone (card (net .transitions))) s e in
+    let row = row-read net-inverse (λ net. alone (cardOf card net)) s e in
     let few = net-transitions (v .0) (row .passed) .1 in
-    let second = alone-written-again (w (v .0 .transitions) .inverse few) (drop (length text) s) (row .there) in
+    let second = alone-written-again (w (v .0) .inverse few) (drop (length text) s) (row .there) in
     record {
       bytes = ap (λ (l : List ℕ). text ++ l) (sym (second .bytes)) ∙ sym (row .bytes);
       end = omega (arith, row .in-all, second .end, ap length (row .bytes) ∙ length-append text (drop (length text) s));

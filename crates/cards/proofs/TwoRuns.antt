@@ -18,17 +18,17 @@ use Rattle.net.proofs.Writable.{net-told}
 use Rattle.run.specs.declared.Run.{Run}
 use Rattle.run.specs.Run.{runCard}
 use Rattle.run.specs.Same.{writableRun}
-use Rattle.run.proofs.Card.{runReach, run-format}
+use Rattle.run.proofs.Card.{runReach}
 use Rattle.run.proofs.Text.{run-text}
 use Rattle.run.proofs.Writable.{run-told}
-use Rattle.cards.specs.Cards.{twoRuns, twoRunsChecked, twoRunsInput}
-use Rattle.cards.proofs.OnNet.{read-few}
+use Rattle.cards.specs.Cards.{cardOf, twoRuns, twoRunsChecked, twoRunsInput}
+use Rattle.cards.proofs.OnNet.{run-lawful, read-few}
 
 -- a program whose buffer holds the first k bytes loses nothing
 pub two-runs-prefix : (s : List ℕ) (k : ℕ) → netReach + (runReach + runReach) < k → twoRuns (take k s) ≡ twoRuns s
 two-runs-prefix =
     follow-near (front-near net-reaches)
-    (λ s net next e. let near = run-format (net .transitions) .reaches (read-few s e) in follow-near (front-near near) (λ s′ x next′ e′. alone-near near)) .prefix
+    (λ s net next e. let near = run-lawful net .reaches (read-few s e) in follow-near (front-near near) (λ s′ x next′ e′. alone-near near)) .prefix
 
 -- what was read passes its check, and written again it is the input
 pub record TwoRunsRead (net : Net) (x y : Run) (s : List ℕ) (next : ℕ) : Type 0 where
@@ -38,12 +38,12 @@ pub record TwoRunsRead (net : Net) (x y : Run) (s : List ℕ) (next : ℕ) : Typ
 
 pub two-runs-was : (s : List ℕ) {net : Net} {x y : Run} {next : ℕ} → twoRuns s ≡ found (net, (x, y)) next → TwoRunsRead net x y s next
 two-runs-was s {net} {x} {y} e =
-    let card = runCard (net .transitions) in
+    let card = cardOf runCard net in
     let t = netCard .text net in
     let u = card .text x in
     let rest = drop (length t) s in
-    let one = row-read net-inverse (λ n. follow (front (runCard (n .transitions))) (λ _. alone (runCard (n .transitions)))) s e in
-    let inverse = run-format (net .transitions) .inverse (net-transitions net (one .passed) .1) in
+    let one = row-read net-inverse (λ n. follow (front (cardOf runCard n)) (λ _. alone (cardOf runCard n))) s e in
+    let inverse = run-lawful net .inverse (net-transitions net (one .passed) .1) in
     let two = row-read inverse (λ _. alone card) rest (one .there) in
     let last = alone-written-again inverse (drop (length u) rest) (two .there) in
     let behind : u ++ card .text y ≡ rest = ap (λ (l : List ℕ). u ++ l) (sym (last .bytes)) ∙ sym (two .bytes) in
@@ -59,17 +59,17 @@ two-runs-was s {net} {x} {y} e =
 module _ (net : Net) (x y : Run) where
   -- the text of a run is the same for any net
   abbrev textOf : Run → List ℕ
-  textOf = runCard (net .transitions) .text
+  textOf = cardOf runCard net .text
 
-  cut-text : (r : Run) → runCard (writableNet net .transitions) .text r ≡ textOf r
-  cut-text r = run-text (writableNet net .transitions) (net .transitions) r
+  cut-text : (r : Run) → cardOf runCard (writableNet net) .text r ≡ textOf r
+  cut-text r = run-text (writableNet net .sheet) (writableNet net .transitions) (net .sheet) (net .transitions) r
 
   abbrev cutInput : List ℕ
   cutInput = twoRunsInput (writableNet net) (writableRun x) (writableRun y)
 
   cut-texts : cutInput ≡ netCard .text (writableNet net) ++ (textOf (writableRun x) ++ textOf (writableRun y))
   cut-texts =
-      ap (λ (l : List ℕ). netCard .text (writableNet net) ++ (l ++ runCard (writableNet net .transitions) .text (writableRun y))) (cut-text (writableRun x))
+      ap (λ (l : List ℕ). netCard .text (writableNet net) ++ (l ++ cardOf runCard (writableNet net) .text (writableRun y))) (cut-text (writableRun x))
       ∙ ap (λ (l : List ℕ). netCard .text (writableNet net) ++ (textOf (writableRun x) ++ l)) (cut-text (writableRun y))
 
   -- what passes can be written as it is
@@ -78,29 +78,29 @@ module _ (net : Net) (x y : Run) where
       let first = also-first (netCard .check net 1) _ p in
       let runs = also-second (netCard .check net 1) _ p in
       let few = net-transitions net first .1 in
-      let told = run-told (net .transitions) few in
-      let w = run-format (net .transitions) in
+      let told = run-told (net .sheet) (net .transitions) few in
+      let w = run-lawful net in
       let a = told-text net-told net-inverse net-settled net 1 first in
-      let b = told-text told (w .inverse few) (w .settled) x 1 (also-first (runCard (net .transitions) .check x 1) _ runs) in
-      let c = told-text told (w .inverse few) (w .settled) y 1 (also-second (runCard (net .transitions) .check x 1) _ runs) in
+      let b = told-text told (w .inverse few) (w .settled) x 1 (also-first (cardOf runCard net .check x 1) _ runs) in
+      let c = told-text told (w .inverse few) (w .settled) y 1 (also-second (cardOf runCard net .check x 1) _ runs) in
       cut-texts
       ∙ ap (λ (l : List ℕ). l ++ (textOf (writableRun x) ++ textOf (writableRun y))) a
       ∙ ap (λ (l : List ℕ). netCard .text net ++ (l ++ textOf (writableRun y))) b
       ∙ ap (λ (l : List ℕ). netCard .text net ++ (textOf x ++ l)) c
 
   pub two-runs-told : twoRuns cutInput
-      ≡ foundIf (twoRunsChecked net x y) (netCard .clean net, (runCard (net .transitions) .clean x, runCard (net .transitions) .clean y))
+      ≡ foundIf (twoRunsChecked net x y) (netCard .clean net, (cardOf runCard net .clean x, cardOf runCard net .clean y))
       (length (twoRunsInput net x y))
   two-runs-told =
-      let card = runCard (net .transitions) in
+      let card = cardOf runCard net in
       let t = netCard .text (writableNet net) in
       let u = textOf (writableRun x) in
       let v = textOf (writableRun y) in
       ap twoRuns cut-texts
-      ∙ row-told net-told (λ n. follow (front (runCard (n .transitions))) (λ _. alone (runCard (n .transitions)))) net (u ++ v)
+      ∙ row-told net-told (λ n. follow (front (cardOf runCard n)) (λ _. alone (cardOf runCard n))) net (u ++ v)
       (also (card .check x 1) (card .check y 1)) (card .clean x, card .clean y) (length u + length v)
       (λ p.
-      let told = run-told (net .transitions) (net-transitions net p .1) in
+      let told = run-told (net .sheet) (net .transitions) (net-transitions net p .1) in
       row-told told (λ _. alone card) x v (card .check y 1) (card .clean y) (length v) (λ q. alone-told told y))
       ∙ judged-same (twoRunsChecked net x y) _ _ _ _ (λ p.
       ap (found (netCard .clean net, (card .clean x, card .clean y)))
@@ -109,5 +109,5 @@ module _ (net : Net) (x y : Run) where
   -- what passes its check is read back from its cards, up to the slots past the counts
   pub two-runs-back : twoRunsChecked net x y ≡ Passed
       → twoRuns (twoRunsInput net x y)
-      ≡ found (netCard .clean net, (runCard (net .transitions) .clean x, runCard (net .transitions) .clean y)) (length (twoRunsInput net x y))
+      ≡ found (netCard .clean net, (cardOf runCard net .clean x, cardOf runCard net .clean y)) (length (twoRunsInput net x y))
   two-runs-back p = ap twoRuns (sym (input-same p)) ∙ two-runs-told ∙ rw p refl

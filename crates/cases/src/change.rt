@@ -10,32 +10,37 @@ use run::Firing;
 use run::Order;
 use run::Run;
 
-// The keys, by their places in the list of `change_at`: eight of a net, two of a run or an order, three of a run alone.
-const PLACES: usize = 0;
+// The keys, by their places in the list of `change_at`: nine of a net, three of a run or an order, three of a run alone. `sheet` is the net's,
+// `cardsheet` that of the run or order.
+const SHEET: usize = 0;
 
-const TRANSITIONS: usize = 1;
+const PLACES: usize = 1;
 
-const START: usize = 2;
+const TRANSITIONS: usize = 2;
 
-const EARLIEST: usize = 3;
+const START: usize = 3;
 
-const LATEST: usize = 4;
+const EARLIEST: usize = 4;
 
-const UNBOUNDED: usize = 5;
+const LATEST: usize = 5;
 
-const TAKE: usize = 6;
+const UNBOUNDED: usize = 6;
 
-const GIVE: usize = 7;
+const TAKE: usize = 7;
 
-const FIRINGS: usize = 8;
+const GIVE: usize = 8;
 
-const FIRE: usize = 9;
+const CARD_SHEET: usize = 9;
 
-const DENOMINATOR: usize = 10;
+const FIRINGS: usize = 10;
 
-const WAIT: usize = 11;
+const FIRE: usize = 11;
 
-const REST: usize = 12;
+const DENOMINATOR: usize = 12;
+
+const WAIT: usize = 13;
+
+const REST: usize = 14;
 
 // What a case reads, and how far: a net, a run and an order of it, and another run, to rank the first with, which no line changes.
 pub struct Values {
@@ -63,7 +68,8 @@ fn change_at(s: &[u8], at: usize) -> Change {
         key: lines::word_at(
             line,
             0,
-            b"places=;transitions=;start.;earliest.;latest.;unbounded.;take.;give.;firings=;fire.;denominator=;wait.;rest=;",
+            b"sheet=;places=;transitions=;start.;earliest.;latest.;unbounded.;take.;give.;\
+            cardsheet=;firings=;fire.;denominator=;wait.;rest=;",
         ),
         first: lines::number(line, first) as usize,
         second: lines::number(line, second) as usize,
@@ -74,9 +80,9 @@ fn change_at(s: &[u8], at: usize) -> Change {
 // How many of the keys the values of an operation have.
 fn keys_of(operation: Operation) -> usize {
     match operation {
-        Operation::NetValue | Operation::ReadRun | Operation::ReadOrder => 8,
-        Operation::Order | Operation::TimetableValue => 10,
-        _ => 13,
+        Operation::NetValue | Operation::ReadRun | Operation::ReadOrder => 9,
+        Operation::Order | Operation::TimetableValue => 12,
+        _ => 15,
     }
 }
 
@@ -120,6 +126,9 @@ fn change_net(net: Net, c: Change) -> Net {
     let tokens = (c.value % 256) as u8;
     let key = c.key;
     match key {
+        SHEET => {
+            n.sheet = c.value;
+        }
         PLACES => {
             n.places = c.value as usize;
         }
@@ -150,6 +159,9 @@ fn change_run(run: Run, c: Change) -> Run {
     let f = r.firings[i];
     let key = c.key;
     match key {
+        CARD_SHEET => {
+            r.sheet = c.value;
+        }
         FIRINGS => {
             r.count = c.value as usize;
         }
@@ -182,6 +194,9 @@ fn change_order(order: Order, c: Change) -> Order {
     let i = c.first % 64;
     let key = c.key;
     match key {
+        CARD_SHEET => {
+            r.sheet = c.value;
+        }
         FIRINGS => {
             r.count = c.value as usize;
         }

@@ -78,6 +78,7 @@ fn run_file(name: &[u8]) {
 
 fn main() {
     run_file(b"cards");
+    run_file(b"values");
     run_file(b"replay");
     run_file(b"round");
     run_file(b"timetable");

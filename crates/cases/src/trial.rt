@@ -132,9 +132,9 @@ fn values_of(operation: Operation, input: &[u8], card: &[u8]) -> Values {
     let n = net_card::read_net(input);
     let net = n.net;
     let net_read = n.read;
-    let x = run_card::run_behind(input, net_read, net.transitions, true);
-    let o = run_card::order_behind(input, net_read, net.transitions);
-    let y = run_card::run_card(card, net.transitions);
+    let x = run_card::run_behind(input, net_read, net.sheet, net.transitions, true);
+    let o = run_card::order_behind(input, net_read, net.sheet, net.transitions);
+    let y = run_card::run_card(card, net.sheet, net.transitions);
     let run = x.run;
     let order = o.order;
     let other = y.run;

@@ -30,7 +30,7 @@ use Rattle.timing.specs.Schedule.{Scheduled, timed, unschedulable, schedule}
 use Rattle.timing.specs.Rounding.{roundedRun, timetableRun}
 use Rattle.timing.proofs.Rounded.{rounded-checked, scheduled-checked}
 use Rattle.causal.specs.Print.{processText}
-use Rattle.cards.specs.Cards.{runChecked, orderChecked}
+use Rattle.cards.specs.Cards.{cardOf, runChecked, orderChecked}
 use Rattle.cards.proofs.Cards.{run-short}
 use Rattle.schedule.specs.declared.Timetabled.{Timetabled}
 use Rattle.schedule.specs.Timetable.{timetabled, scheduledRun}
@@ -45,8 +45,8 @@ use Rattle.operations.proofs.Causality.{accepted-tokens}
 use Rattle.engine.proofs.Outcome.{refusal-answered, check-refused, check-passed}
 
 -- the card of a run that passes its check fits the buffer
-card-fits : (net : Net) (r : Run) → runChecked net r ≡ checked.Passed → length (runCard 0 .text r) ≤ 2048
-card-fits net r p = omega (arith, ap length (run-text 0 (net .transitions) r), run-short net r p)
+card-fits : (net : Net) (r : Run) → runChecked net r ≡ checked.Passed → length (runCard 0 0 .text r) ≤ 2048
+card-fits net r p = omega (arith, ap length (run-text 0 0 (net .sheet) (net .transitions) r), run-short net r p)
 
 -- the same answer
 other-text : {a b entry : List ℕ} {r : Reply} {exit : List ℕ} → a ≡ b → Responded (answer a) entry r exit → Responded (answer b) entry r exit
@@ -73,7 +73,7 @@ module _ (net : Net) (run : Run) {p : Played} (is : p ≡ play net (ruleOf (arcs
   pub rest-fits : runChecked net run ≡ checked.Passed → p .state .now + run .rest < 2 ^ 64
   unfolding startState
   rest-fits e =
-      let f = run-in-ranges (net .transitions) run .0 (also-second (netCard .check net 1) _ e) in
+      let f = run-in-ranges (net .sheet) (net .transitions) run .0 (also-second (netCard .check net 1) _ e) in
       let waits = each-map (λ g h. h .0) (firingsOf run) (f .each) in
       let soon = play-soon net (ruleOf (arcsOf net) (run .memory)) (run .denominator) 10000000 (firingsOf run) (startState net) 0 waits in
       omega (arith, ap (λ (x : Played). x .state .now) is, soon, length-firings run, f .few, f .rest, min-le-right (run .count) 64)
@@ -83,7 +83,7 @@ module _ (net : Net) (run : Run) {p : Played} (is : p ≡ play net (ruleOf (arcs
     replay-refused = rw (outcome-same, e) (refusal-answered r out)
 
     pub round-refused : Responded (roundOf net run) out (Refused r) out
-    round-refused = check-refused (answer (runCard (net .transitions) .text (roundedRun run))) out (judged ∙ e)
+    round-refused = check-refused (answer (cardOf runCard net .text (roundedRun run))) out (judged ∙ e)
 
     pub process-refused : Responded (processOf net run) out (Refused r) out
     process-refused = check-refused (answer (processText net (orderOf (firingsOf run)))) out (judged ∙ e)
@@ -99,16 +99,16 @@ module _ (net : Net) (run : Run) {p : Played} (is : p ≡ play net (ruleOf (arcs
       pub process-answered : Responded (answer (processText net (orderOf (firingsOf run)))) entry r exit → Responded (processOf net run) entry r exit
       process-answered v = check-passed (answer (processText net (orderOf (firingsOf run)))) (judged ∙ e) v
 
-      pub round-answered : {q : Run} → q ≡ roundedRun run → Responded (answer (runCard 0 .text q)) entry r exit → Responded (roundOf net run) entry r exit
+      pub round-answered : {q : Run} → q ≡ roundedRun run → Responded (answer (runCard 0 0 .text q)) entry r exit → Responded (roundOf net run) entry r exit
       round-answered same v =
-          check-passed (answer (runCard (net .transitions) .text (roundedRun run))) (judged ∙ e)
-          (other-text (ap (runCard 0 .text) same ∙ run-text 0 (net .transitions) (roundedRun run)) v)
+          check-passed (answer (cardOf runCard net .text (roundedRun run))) (judged ∙ e)
+          (other-text (ap (runCard 0 0 .text) same ∙ run-text 0 0 (net .sheet) (net .transitions) (roundedRun run)) v)
 
 -- the rounded run of a run that passes its check fits the buffer
-pub rounded-fits : (net : Net) (run : Run) → runChecked net run ≡ checked.Passed → {q : Run} → q ≡ roundedRun run → length (runCard 0 .text q) ≤ 2048
+pub rounded-fits : (net : Net) (run : Run) → runChecked net run ≡ checked.Passed → {q : Run} → q ≡ roundedRun run → length (runCard 0 0 .text q) ≤ 2048
 rounded-fits net run e {q} is =
     let own = also-second (netCard .check net 1) _ e in
-    card-fits net q (rw (also-first (netCard .check net 1) _ e, is) (rounded-checked (net .transitions) run own))
+    card-fits net q (rw (also-first (netCard .check net 1) _ e, is) (rounded-checked (net .sheet) (net .transitions) run own))
 
 -- ---- t is the timetable of an order that passed its check
 module _ (net : Net) (o : Order) (e : orderChecked net o ≡ checked.Passed) {t : Timetabled} (is : t ≡ timetabled net o) where
@@ -126,15 +126,15 @@ module _ (net : Net) (o : Order) (e : orderChecked net o ≡ checked.Passed) {t 
       go (unschedulable q) h = let same : q ≡ r = cc in rw same (refusal-answered r out)
 
   module _ (q : t .checked ≡ checked.Passed) where
-    timely : (ws : List ℕ) × (scheduled ≡ timed ws) × (t .run ≡ timetableRun (o .memory) (firesOf o) ws)
+    timely : (ws : List ℕ) × (scheduled ≡ timed ws) × (t .run ≡ timetableRun (o .sheet) (o .memory) (firesOf o) ws)
     timely = go scheduled refl (ap (λ (x : Timetabled). x .checked) (sym own) ∙ q)
       where
         go : (s : Scheduled) → scheduled ≡ s → scheduledRun o s .checked ≡ checked.Passed
-            → (ws : List ℕ) × (scheduled ≡ timed ws) × (t .run ≡ timetableRun (o .memory) (firesOf o) ws)
+            → (ws : List ℕ) × (scheduled ≡ timed ws) × (t .run ≡ timetableRun (o .sheet) (o .memory) (firesOf o) ws)
         go (timed ws) h k = (ws, h, ap (λ (x : Timetabled). x .run) (own ∙ ap (scheduledRun o) h))
         go (unschedulable r) h k = let z : _≡_ {A = ℕ} 0 1 = cc in absurd (omega arith)
 
-    pub timetable-fits : length (runCard 0 .text (t .run)) ≤ 2048
+    pub timetable-fits : length (runCard 0 0 .text (t .run)) ≤ 2048
     timetable-fits =
         let (ws, h, same) = timely in
         let net-passed = also-first (netCard .check net 1) _ e in
@@ -142,8 +142,8 @@ module _ (net : Net) (o : Order) (e : orderChecked net o ≡ checked.Passed) {t 
         (rw (net-passed, same) (scheduled-checked net (ruleOf (arcsOf net) (o .memory)) o ws h (earliest-within net net-passed)
         (also-second (netCard .check net 1) _ e)))
 
-    pub timetable-answered : {entry : List ℕ} {r : Reply} {exit : List ℕ} → Responded (answer (runCard 0 .text (t .run))) entry r exit
+    pub timetable-answered : {entry : List ℕ} {r : Reply} {exit : List ℕ} → Responded (answer (runCard 0 0 .text (t .run))) entry r exit
         → Responded (timetableOf net o) entry r exit
     timetable-answered v =
         let (ws, h, same) = timely in
-        rw h (other-text (ap (runCard 0 .text) same ∙ run-text 0 (net .transitions) (timetableRun (o .memory) (firesOf o) ws)) v)
+        rw h (other-text (ap (runCard 0 0 .text) same ∙ run-text 0 0 (net .sheet) (net .transitions) (timetableRun (o .sheet) (o .memory) (firesOf o) ws)) v)

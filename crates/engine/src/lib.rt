@@ -27,8 +27,8 @@ ghost use Rattle.operations.specs.Timetable.{timetableOf, timetableValues, time
 
 // The card of a run as the answer, made in a buffer where the output might be too short for it.
 fn respond_run(run: Run, out: &mut [u8]) -> Reply
-    requires { ⌜ length (runCard 0 .text run) ≤ 2048 ⌝ }
-    ensures { λ r. ⌜ Responded (answer (runCard 0 .text run)) (now (out .entry)) r (now (out .exit)) ⌝ }
+    requires { ⌜ length (runCard 0 0 .text run) ≤ 2048 ⌝ }
+    ensures { λ r. ⌜ Responded (answer (runCard 0 0 .text run)) (now (out .entry)) r (now (out .exit)) ⌝ }
 {
     if 2048 <= out.len() {
         return Reply::Written(run_card::put_run(out, 0, run));
@@ -97,7 +97,7 @@ pub fn replay_cards(input: &[u8], out: &mut [u8]) -> Reply
 {
     let n = net_card::read_net(input);
     let net_read = n.read;
-    let r = run_card::run_behind(input, net_read, n.net.transitions, true);
+    let r = run_card::run_behind(input, net_read, n.net.sheet, n.net.transitions, true);
     let read = r.read;
     match read {
         LineRead::Stopped(why) => Reply::Refused(why),
@@ -135,7 +135,7 @@ pub fn round_cards(input: &[u8], out: &mut [u8]) -> Reply
 {
     let n = net_card::read_net(input);
     let net_read = n.read;
-    let r = run_card::run_behind(input, net_read, n.net.transitions, true);
+    let r = run_card::run_behind(input, net_read, n.net.sheet, n.net.transitions, true);
     let read = r.read;
     match read {
         LineRead::Stopped(why) => Reply::Refused(why),
@@ -173,7 +173,7 @@ pub fn timetable_cards(input: &[u8], out: &mut [u8]) -> Reply
 {
     let n = net_card::read_net(input);
     let net_read = n.read;
-    let o = run_card::order_behind(input, net_read, n.net.transitions);
+    let o = run_card::order_behind(input, net_read, n.net.sheet, n.net.transitions);
     let read = o.read;
     match read {
         LineRead::Stopped(why) => Reply::Refused(why),
@@ -211,7 +211,7 @@ pub fn process_cards(input: &[u8], out: &mut [u8]) -> Reply
 {
     let n = net_card::read_net(input);
     let net_read = n.read;
-    let r = run_card::run_behind(input, net_read, n.net.transitions, true);
+    let r = run_card::run_behind(input, net_read, n.net.sheet, n.net.transitions, true);
     let read = r.read;
     match read {
         LineRead::Stopped(why) => Reply::Refused(why),

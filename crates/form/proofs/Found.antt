@@ -65,6 +65,11 @@ also-second Passed c′ e = e
 also-second (Refused r) c′ e = cc
 
 -- three checks, grouped either way
+-- two checks that refuse: the first does, or it passes and the second does
+pub also-refused : {P : Type 0} {r : Refusal} (c c′ : Checked) → (c ≡ Refused r → P) → (c ≡ Passed → c′ ≡ Refused r → P) → also c c′ ≡ Refused r → P
+also-refused Passed c′ first then e = then refl e
+also-refused (Refused q) c′ first then e = first e
+
 pub also-also : (a b c : Checked) → also a (also b c) ≡ also (also a b) c
 also-also Passed b c = refl
 also-also (Refused r) b c = refl

@@ -10,4 +10,5 @@ pub mod NumberLines
 pub mod Places
 pub mod Row
 pub mod Same
+pub mod Sheets
 pub mod Writable

@@ -1,5 +1,5 @@
 -- Cards in a row: how much of an input their reading looks at, what a reading that found something says of the cards, what a refusal is of, how values are told
--- by their cards; and the reading in steps, card by card.
+-- by their cards, what is refused behind a card that passes; and the reading in steps, card by card.
 use Prim.Native.Nat.{ℕ, _+_, _-_, _≤_, _<_}
 use native.Mathlib.Nat.{zero-add}
 use native.Mathlib.Omega.{arith}
@@ -91,6 +91,13 @@ row-told {f = f} {cut} w then a u c b n h =
     (judged-then (f .check a 1) c (f .clean a) (length t) _ _ _ (λ p.
     rw (drop-append-seam t u, h p)
     (judged-more c b n _ _ _ (λ q. refl))))
+
+-- ---- what is refused behind a card that passes
+pub row-behind : {A B : Type 0} {f : Form A} → Inverse f → (then : A → List ℕ → Found B) (a : A) (u : List ℕ) {r : Refusal} → f .check a 1 ≡ Passed
+    → then (f .clean a) u ≡ refused r → follow (front f) then (f .text a ++ u) ≡ refused r
+row-behind {f = f} i then a u p h =
+    let t = f .text a in
+    rw (i .read-written a (t ++ u) u 0 1 p refl, zero-add (length t), drop-append-seam t u, h) refl
 
 -- ---- the same reading in steps
 module _ {A B : Type 0} (first : List ℕ → Found A) (then : A → List ℕ → Found B) (s : List ℕ) (d : A) where

@@ -17,13 +17,14 @@ use Rattle.reply.specs.declared.Refusal.{Refusal}
 use Rattle.reply.specs.declared.Refusal.the-variants.{OutOfRange, NoSuchTransition}
 use Rattle.reply.specs.declared.Checked.{Checked}
 use Rattle.reply.specs.declared.Checked.the-variants.{Passed, Refused}
+use Rattle.reply.specs.Refusal.{positionOf}
 use Rattle.text.specs.Key.{beginsWith}
 use Rattle.text.specs.Decimal.{field}
 use Rattle.text.proofs.KeyLaws.{begins-text}
 use Rattle.text.proofs.NumberLaws.{field-text}
 use Rattle.form.specs.Form.{found, refused, foundIf, Form, keyed, chain, texts, checks, reads, exactly, held, ended, alone}
 use Rattle.form.specs.Line.{ranged, writable, listed, number, itemsText, itemsAt, allRanged, itemsRanged, itemList, items}
-use Rattle.form.specs.Inverse.{Inverse, Settled, Told}
+use Rattle.form.specs.Inverse.{Inverse, Settled, Placed, Told}
 use Rattle.form.proofs.Found.{judged-then, judged-more, judged-same, test-passed}
 use Rattle.form.proofs.Lines.{ranged-within, ranged-each, items-back}
 use Rattle.form.proofs.NumberLines.{above-range}
@@ -51,7 +52,7 @@ ranged-long low high h n line l = rw (above-range low high n (omega arith)) refl
 listed-long : (transitions : ℕ) → transitions ≤ 999999999 → (n line : ℕ) → 999999999 ≤ n → listed transitions n line ≡ Refused (NoSuchTransition line)
 listed-long transitions h n line l = rw (le-ltb n transitions (omega arith)) refl
 
-number-told : (judge : ℕ → ℕ → Checked) (refusal : ℕ → Refusal) → ((n line : ℕ) → 999999999 ≤ n → judge n line ≡ Refused (refusal line))
+pub number-told : (judge : ℕ → ℕ → Checked) (refusal : ℕ → Refusal) → ((n line : ℕ) → 999999999 ≤ n → judge n line ≡ Refused (refusal line))
     → Told (number judge) writable
 number-told judge refusal long =
     record {
@@ -84,6 +85,13 @@ module _ (k size low high : ℕ) (h : high < 999999999) where
             ap (λ (m : List ℕ). found (padTo size 0 m) (at + length t))
             (short-items ns (ranged-each low high (omega arith) ns (test-passed (allRanged low high ns) (OutOfRange line) p)))));
       }
+
+-- so a check that refuses names a line from the first on, as the reading does
+pub told-placed : {A : Type 0} {f : Form A} {cut : A → A} → Told f cut → {n : ℕ} → Placed f n → (a : A) (line : ℕ) {r : Refusal} → f .check a line ≡ Refused r
+    → line ≤ positionOf r
+told-placed {f = f} {cut} w p a line {r} e =
+    let t = f .text (cut a) in
+    p .named r t 0 line (w .told a t [] 0 line (sym (append-nil t)) ∙ rw e refl) .from
 
 -- ---- the ways to put forms together
 pub keyed-told : (key : List ℕ) {A : Type 0} {f : Form A} {cut : A → A} → Told f cut → Told (keyed key f) cut

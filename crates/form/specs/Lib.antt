@@ -1,4 +1,5 @@
 pub mod Form
 pub mod Inverse
 pub mod Line
+pub mod Sheet
 pub mod Code

@@ -11,6 +11,7 @@ ghost use mathlib.Core.Bool.{true};
 ghost use Rattle.text.specs.Decimal.{field};
 ghost use Rattle.form.specs.Form.{keyed};
 ghost use Rattle.form.specs.Line.{ranged, listed, number, itemsText};
+ghost use Rattle.form.specs.Sheet.{sheetChecked, sheetOf};
 ghost use Rattle.form.specs.Code.{numberLine, keyedField};
 
 // A line's number and the position behind the line, or why there is none.
@@ -46,6 +47,20 @@ pub fn check_listed(n: u64, transitions: u64, line: usize) -> Checked
         Checked::Passed
     } else {
         Checked::Refused(Refusal::NoSuchTransition(line))
+    }
+}
+
+// The sheet of a card against its range and the sheet of its net.
+pub fn check_sheet(n: u32, own: u32, line: usize) -> Checked
+    ensures { λ r. ⌜ r ≡ sheetChecked own n line ⌝ }
+{
+    if 9999 < n {
+        return Checked::Refused(Refusal::OutOfRange(line));
+    }
+    if n == own {
+        Checked::Passed
+    } else {
+        Checked::Refused(Refusal::AnotherSheet(line))
     }
 }
 
@@ -86,6 +101,23 @@ pub fn listed_line(s: &[u8], at: usize, key: &[u8], transitions: u64, line: usiz
         NumberRead::NoNumber => NumberLine::Refused(Refusal::Malformed(line)),
         NumberRead::Value { value, next } => {
             let c = check_listed(value as u64, transitions, line);
+            match c {
+                Checked::Refused(r) => NumberLine::Refused(r),
+                Checked::Passed => NumberLine::Value { value, next },
+            }
+        }
+    }
+}
+
+// The line with the sheet of a card, which is to be that of its net.
+pub fn sheet_line(s: &[u8], at: usize, own: u32, line: usize) -> NumberLine
+    ensures { λ r. ⌜ r ≡ numberLine (sheetOf own .read (now (s .entry)) at line) ⌝ }
+{
+    let n = field_line(s, at, b"sheet=");
+    match n {
+        NumberRead::NoNumber => NumberLine::Refused(Refusal::Malformed(line)),
+        NumberRead::Value { value, next } => {
+            let c = check_sheet(value, own, line);
             match c {
                 Checked::Refused(r) => NumberLine::Refused(r),
                 Checked::Passed => NumberLine::Value { value, next },

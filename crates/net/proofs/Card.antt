@@ -1,4 +1,4 @@
--- The net card is a format: each of its lines is one, and the counts of the first two lines bound how many follow. A number never begins
+-- The net card is a format: each of its lines is one, and the counts of its second and third line bound how many follow. A number never begins
 -- like the word for no upper bound, since the word's first byte is no digit.
 use Prim.Native.Nat.{ℕ, _+_, _-_, _≤_, _<_, min}
 use native.Mathlib.Nat.{min-le-right, min-eq-left}
@@ -12,7 +12,7 @@ use lib.Dec.{lit<, leb, ltb}
 use Rattle.laws.specs.Each.{each-append, each-image, each-replicate, each-at}
 use Rattle.laws.specs.Slots.{firstOf, padTo, length-first, length-pad, getD-first}
 use Rattle.reply.specs.declared.Refusal.{Refusal}
-use Rattle.reply.specs.declared.Refusal.the-variants.{OutOfRange, LatestBelowEarliest}
+use Rattle.reply.specs.declared.Refusal.the-variants.{OutOfRange, LatestBelowEarliest, AnotherSheet}
 use Rattle.reply.specs.declared.Checked.the-variants.{Passed, Refused}
 use Rattle.reply.specs.Refusal.{positionOf}
 use Rattle.text.specs.declared.NumberRead.the-variants.{Value, NoNumber}
@@ -21,19 +21,21 @@ use Rattle.text.specs.Number.{digitsOf, fieldAt}
 use Rattle.text.specs.Decimal.{field}
 use Rattle.text.proofs.KeyLaws.{begins-text, begins-split, begins-take}
 use Rattle.text.proofs.NumberLaws.{field-text, field-split, field-near, field-take}
-use Rattle.form.specs.Form.{found, refused, andThen, foundIf, also, keyed}
+use Rattle.form.specs.Form.{found, refused, andThen, foundIf, also, keyed, front}
 use Rattle.form.specs.Line.{formed, ranged, number}
+use Rattle.form.specs.Sheet.{sheet}
 use Rattle.form.specs.Inverse.{WasRead, Inverse, Settled, Reaches, Placed, Format}
-use Rattle.form.proofs.Found.{not-both, found-place, then-found, also-first, also-second, checks-each, judged-passed, judged-found}
+use Rattle.form.proofs.Found.{not-both, found-place, then-found, then-refused, also-first, also-second, checks-each, judged-passed, judged-found}
 use Rattle.form.proofs.Combine.{was-same}
 use Rattle.form.proofs.Lines.{formed-value, ranged-within, ranged-small, word-was}
 use Rattle.form.proofs.Places.{OwnLine, line-placed, field-own}
 use Rattle.form.proofs.Format.{keyed-format, pair-format, held-format, times-format, ranged-format, items-format, counted-format}
+use Rattle.form.proofs.Sheets.{sheet-line-format, sheet-refused}
 use Rattle.form.proofs.Card.{read-back, passes-exactly, text-short}
 use Rattle.net.specs.declared.Latest.{Latest}
 use Rattle.net.specs.declared.Latest.the-variants.{Unbounded, Ticks}
 use Rattle.net.specs.declared.Net.{Net}
-use Rattle.net.specs.Net.{latestChecked, latest, weights, Row, toRow, fromRow, row, noRow, noTransition, starts, rows, body, netLines, rowsOf}
+use Rattle.net.specs.Net.{latestChecked, latest, weights, Row, toRow, fromRow, row, noRow, noTransition, starts, rows, body, countedLines, netLines, rowsOf}
 use Rattle.net.specs.Net.{toNet, fromNet, netCard}
 use Rattle.net.proofs.Rows.{Full, row-there, rows-back}
 
@@ -145,29 +147,29 @@ full-list k l = length-pad 16 0 (firstOf (min k 16) 0 l) (omega (arith, length-f
 full-row : (places : ℕ) (r : Row) → Full (row places .clean r)
 full-row places r = (full-list places (r .take), full-list places (r .give))
 
-clean-back : (v : ℕ × (ℕ × (List ℕ × List Row))) → fromNet (toNet (netLines .clean v)) ≡ netLines .clean v
-clean-back v =
-    let places = v .0 in
-    let n = min (v .1 .0) 32 in
-    let m = map (row places .clean) (firstOf n noRow (v .1 .1 .1)) in
-    let few : length m ≤ 32 =
-    omega (arith, length-map (firstOf n noRow (v .1 .1 .1)) (row places .clean), length-first n noRow (v .1 .1 .1), min-le-right (v .1 .0) 32) in
+clean-back : (v : ℕ × (ℕ × (ℕ × (List ℕ × List Row)))) → fromNet (toNet (netLines .clean v)) ≡ netLines .clean v
+clean-back (own, (places, (transitions, (start, rs)))) =
+    let n = min transitions 32 in
+    let m = map (row places .clean) (firstOf n noRow rs) in
+    let few : length m ≤ 32 = omega (arith, length-map (firstOf n noRow rs) (row places .clean), length-first n noRow rs, min-le-right transitions 32) in
     let full = each-append Full m (replicate (32 - length m) noRow)
-    (each-image Full (row places .clean) (full-row places) (firstOf n noRow (v .1 .1 .1))) (each-replicate Full noRow (refl, refl) (32 - length m)) in
-    let e = rows-back places (v .1 .0) (starts places .clean (v .1 .1 .0)) (padTo 32 noRow m) (length-pad 32 noRow m few) full in
-    ap (λ (x : List Row). (places, (v .1 .0, (starts places .clean (v .1 .1 .0), x)))) e
+    (each-image Full (row places .clean) (full-row places) (firstOf n noRow rs)) (each-replicate Full noRow (refl, refl) (32 - length m)) in
+    let e = rows-back own places transitions (starts places .clean start) (padTo 32 noRow m) (length-pad 32 noRow m few) full in
+    ap (λ (x : List Row). (own, (places, (transitions, (starts places .clean start, x))))) e
 
 -- as many bytes as a reading of a net card looks at
 abbrev pub netReach : ℕ
-netReach = 12007
+netReach = 12023
 
--- a net card has 146 lines at most: two counts, 16 starts, and four lines for each of 32 transitions
-net-format : Format (Unit {0}) netCard netReach 146
-net-format =
-    held-format toNet fromNet clean-back
-    (counted-format (bytes "places=") 1 16 (lit< tt)
+-- a net card has 147 lines at most: its sheet, two counts, 16 starts, and four lines for each of 32 transitions
+counted-lines-format : Format (Unit {0}) countedLines 12007 146
+counted-lines-format =
+    counted-format (bytes "places=") 1 16 (lit< tt)
     (λ places. counted-format (bytes "transitions=") 1 32 (lit< tt) (body-format places) (λ transitions few h. h))
-    (λ places few h. h))
+    (λ places few h. h)
+
+net-format : Format (Unit {0}) netCard netReach 147
+net-format = held-format toNet fromNet clean-back (pair-format sheet-line-format counted-lines-format)
 
 pub net-inverse : Inverse netCard
 net-inverse = net-format .inverse tt
@@ -178,8 +180,18 @@ net-settled = net-format .settled
 pub net-reaches : Reaches netCard netReach
 net-reaches = net-format .reaches tt
 
-pub net-placed : Placed netCard 146
+pub net-placed : Placed netCard 147
 net-placed = net-format .placed tt
+
+-- a net card is never refused as 11 at line 1: its sheet is 1 or 2, and what stands behind it has a later line
+pub net-own-sheet : (s : List ℕ) → front netCard s ≡ refused (AnotherSheet 1) → ⊥
+net-own-sheet s =
+    then-refused (netLines .read s 0 1) _
+    (then-refused (sheet .read s 0 1) _ (λ e. let h : 11 ≤ 2 = sheet-refused s 0 1 e in omega arith) (λ n next p.
+    then-refused (countedLines .read s next 2) _
+    (λ q. let h : 2 ≤ 1 = counted-lines-format .placed tt .named (AnotherSheet 1) s next 2 q .from in omega arith)
+    (λ v end q e. not-both (sym e))))
+    (λ v next p e. not-both (sym e))
 
 -- what was written is read back, up to the slots past the counts, and reading stops at the rest
 pub net-read-back : (n : Net) (rest : List ℕ) → netCard .check n 1 ≡ Passed
@@ -195,19 +207,23 @@ net-passes-exactly = passes-exactly net-inverse net-settled
 pub net-short : (n : Net) → netCard .check n 1 ≡ Passed → length (netCard .text n) ≤ netReach
 net-short = text-short net-inverse net-reaches
 
--- the counts of a net that passes its check
+-- the sheet and the counts of a net that passes its check
+pub net-sheet : (n : Net) → netCard .check n 1 ≡ Passed → n .sheet ≤ 9999
+net-sheet n p = ranged-within 0 9999 (n .sheet) 1 (also-first (ranged 0 9999 (n .sheet) 1) _ p) .1
+
 pub net-places : (n : Net) → netCard .check n 1 ≡ Passed → (1 ≤ n .places) × (n .places ≤ 16)
-net-places n p = ranged-within 1 16 (n .places) 1 (also-first (ranged 1 16 (n .places) 1) _ p)
+net-places n p = ranged-within 1 16 (n .places) 2 (also-first (ranged 1 16 (n .places) 2) _ (also-second (ranged 0 9999 (n .sheet) 1) _ p))
+
+-- the lines from the second count on, and those behind the counts
+behind-places : (n : Net) → netCard .check n 1 ≡ Passed → also (ranged 1 32 (n .transitions) 3) (body (n .places) (n .transitions) .check (n .start, rowsOf n) 4) ≡ Passed
+behind-places n p = also-second (ranged 1 16 (n .places) 2) _ (also-second (ranged 0 9999 (n .sheet) 1) _ p)
 
 pub net-transitions : (n : Net) → netCard .check n 1 ≡ Passed → (1 ≤ n .transitions) × (n .transitions ≤ 32)
-net-transitions n p =
-    ranged-within 1 32 (n .transitions) 2
-    (also-first (ranged 1 32 (n .transitions) 2) _ (also-second (ranged 1 16 (n .places) 1) _ p))
+net-transitions n p = ranged-within 1 32 (n .transitions) 3 (also-first (ranged 1 32 (n .transitions) 3) _ (behind-places n p))
 
--- the lines behind the counts
-behind-counts : (n : Net) → netCard .check n 1 ≡ Passed → also (starts (n .places) .check (n .start) 3)
-    (rows (n .places) (n .transitions) .check (rowsOf n) (3 + starts (n .places) .lines (n .start))) ≡ Passed
-behind-counts n e = also-second (ranged 1 32 (n .transitions) 2) _ (also-second (ranged 1 16 (n .places) 1) _ e)
+behind-counts : (n : Net) → netCard .check n 1 ≡ Passed → also (starts (n .places) .check (n .start) 4)
+    (rows (n .places) (n .transitions) .check (rowsOf n) (4 + starts (n .places) .lines (n .start))) ≡ Passed
+behind-counts n p = also-second (ranged 1 32 (n .transitions) 3) _ (behind-places n p)
 
 -- its start
 pub net-start : (n : Net) → netCard .check n 1 ≡ Passed → (p : ℕ) → p < n .places → getD (n .start) p 0 ≤ 255
@@ -216,7 +232,7 @@ net-start n e p h =
     let all : k ≡ n .places = min-eq-left (net-places n e .1) in
     let listed = firstOf k 0 (n .start) in
     let each = checks-each (keyed (bytes "start=") (number (ranged 0 255))) (λ (x : ℕ). x ≤ 255) (λ x line q. ranged-within 0 255 x line q .1) listed _
-    (also-first (starts (n .places) .check (n .start) 3) _ (behind-counts n e)) in
+    (also-first (starts (n .places) .check (n .start) 4) _ (behind-counts n e)) in
     subst (λ (x : ℕ). x ≤ 255) (getD-first k 0 (n .start) p (omega arith))
     (each-at (λ (x : ℕ). x ≤ 255) 0 listed each p (omega (arith, length-first k 0 (n .start))))
 
@@ -230,6 +246,6 @@ net-earliest n p t h =
     let P : Row → Type 0 = λ r. r .interval .earliest ≤ 1000 in
     let each = checks-each (row (n .places)) P (λ r line e. ranged-within 0 1000 (r .interval .earliest) line
     (also-first (ranged 0 1000 (r .interval .earliest) line) _ e) .1) listed _
-    (also-second (starts (n .places) .check (n .start) 3) _ (behind-counts n p)) in
+    (also-second (starts (n .places) .check (n .start) 4) _ (behind-counts n p)) in
     let found-row = getD-first k noRow (rowsOf n) t (omega arith) ∙ row-there n t (omega arith) in
     subst P found-row (each-at P noRow listed each t (omega (arith, length-first k noRow (rowsOf n))))

@@ -49,8 +49,8 @@ pub row-there : (n : Net) (t : ℕ) → t < 32 → getD (rowsOf n) t noRow ≡ r
 unfolding rowsOf
 row-there n t h = filled-at (rowAt n) (replicate 32 noRow) noRow 32 t h (omega (arith, length-replicate 32 noRow))
 
-module _ (places transitions : ℕ) (start : List ℕ) (rs : List Row) (long : length rs ≡ 32) (full : Each Full rs) where
-  row-back : (t : ℕ) → t < 32 → rowAt (toNet (places, (transitions, (start, rs)))) t ≡ getD rs t noRow
+module _ (sheet places transitions : ℕ) (start : List ℕ) (rs : List Row) (long : length rs ≡ 32) (full : Each Full rs) where
+  row-back : (t : ℕ) → t < 32 → rowAt (toNet (sheet, (places, (transitions, (start, rs))))) t ≡ getD rs t noRow
   row-back t l =
       let f = each-at Full noRow rs full t (omega arith) in
       let i = List·getD-map (λ (r : Row). r .interval) rs t noRow in
@@ -59,10 +59,10 @@ module _ (places transitions : ℕ) (start : List ℕ) (rs : List Row) (long : l
       λ k. record { interval = i k; take = a k; give = b k }
 
   -- the rows of a net that was made of rows
-  pub rows-back : rowsOf (toNet (places, (transitions, (start, rs)))) ≡ rs
+  pub rows-back : rowsOf (toNet (sheet, (places, (transitions, (start, rs))))) ≡ rs
   unfolding rowsOf
   rows-back =
-      let f = rowAt (toNet (places, (transitions, (start, rs)))) in
+      let f = rowAt (toNet (sheet, (places, (transitions, (start, rs))))) in
       let many : length (filled f 32 (replicate 32 noRow)) ≡ 32 = length-filled f (replicate 32 noRow) 32 ∙ length-replicate 32 noRow in
       ext-getD noRow (filled f 32 (replicate 32 noRow)) rs (many ∙ sym long)
-      (λ t b. let m : t < 32 = omega arith in row-there (toNet (places, (transitions, (start, rs)))) t m ∙ row-back t m)
+      (λ t b. let m : t < 32 = omega arith in row-there (toNet (sheet, (places, (transitions, (start, rs))))) t m ∙ row-back t m)

@@ -54,6 +54,7 @@ module _ (n : Net) (few : n .places ≤ 16) (short : n .transitions ≤ 32) wher
   pub net-same : SameNet (netCard .clean n) n
   net-same =
       record {
+        sheet = refl;
         places = refl;
         transitions = refl;
         start = λ k h. getD-changed (λ (x : ℕ). x) (min (n .places) 16) 16 0 (n .start) k (omega arith);
@@ -89,8 +90,8 @@ module _ {a b : Net} (w : SameNet a b) where
       let line = keyed (bytes "start=") (number (ranged 0 255)) in
       let start = exactly-same (min (b .places) 16) 16 0 line (a .start) (b .start) (λ p h. w .start p (omega arith)) in
       let table = exactly-same (min (b .transitions) 32) 32 noRow (row (b .places)) (rowsOf a) (rowsOf b) same-row in
-      (λ k. toNet (w .places k, (w .transitions k, body (w .places k) (w .transitions k) .clean (a .start, rowsOf a))))
-      ∙ (λ k. toNet (b .places, (b .transitions, (start k, table k))))
+      (λ k. toNet (w .sheet k, (w .places k, (w .transitions k, body (w .places k) (w .transitions k) .clean (a .start, rowsOf a)))))
+      ∙ (λ k. toNet (b .sheet, (b .places, (b .transitions, (start k, table k)))))
 
   pub same-net-check : (line : ℕ) → netCard .check a line ≡ netCard .check b line
   same-net-check = clean-check net-settled same-net-clean

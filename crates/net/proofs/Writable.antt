@@ -83,5 +83,6 @@ pub net-told : Told netCard writableNet
 unfolding writableNet
 net-told =
     held-told toNet fromNet writableNet
-    (λ n. ap (λ (rs : List Row). (writable (n .places), (writable (n .transitions), (map writable (n .start), rs)))) (rows-writable n))
-    (counted-told (bytes "places=") 1 16 (lit< tt) (λ places. counted-told (bytes "transitions=") 1 32 (lit< tt) (body-told places)))
+    (λ n. ap (λ (rs : List Row). (writable (n .sheet), (writable (n .places), (writable (n .transitions), (map writable (n .start), rs))))) (rows-writable n))
+    (pair-told (λ n. refl) (ranged-told (bytes "sheet=") 0 9999 (lit< tt))
+    (counted-told (bytes "places=") 1 16 (lit< tt) (λ places. counted-told (bytes "transitions=") 1 32 (lit< tt) (body-told places))))

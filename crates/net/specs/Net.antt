@@ -1,4 +1,4 @@
--- Document 01, "Cards": the net card, line by line.
+-- Document 01, "Cards", and document 02, Q-3: the net card, line by line.
 use Prim.Native.Nat.{ℕ, _+_, _*_, _/_, _%_}
 use mathlib.Core.Bool.{true, cond}
 use mathlib.Core.List.{List, map}
@@ -14,6 +14,7 @@ use Rattle.text.specs.Number.{fieldAt}
 use Rattle.text.specs.Decimal.{field}
 use Rattle.form.specs.Form.{found, andThen, foundIf, also, Form, keyed, chain, times, held}
 use Rattle.form.specs.Line.{formed, ranged, number, items}
+use Rattle.form.specs.Sheet.{sheet}
 use Rattle.net.specs.declared.Latest.{Latest}
 use Rattle.net.specs.declared.Latest.the-variants.{Unbounded, Ticks}
 use Rattle.net.specs.declared.Transition.{Transition}
@@ -71,7 +72,7 @@ noTransition = record { earliest = 0; latest = Unbounded }
 abbrev pub noRow : Row
 noRow = record { interval = noTransition; take = replicate 16 0; give = replicate 16 0 }
 
--- the lines of a net card: `places` P (1 to 16), `transitions` T (1 to 32), P lines `start` (0 to 255), T transitions
+-- the lines of a net card: `sheet`, `places` P (1 to 16), `transitions` T (1 to 32), P lines `start` (0 to 255), T transitions
 abbrev pub starts : ℕ → Form (List ℕ)
 starts places = times places 16 0 (keyed (bytes "start=") (number (ranged 0 255)))
 
@@ -81,10 +82,13 @@ rows places transitions = times transitions 32 noRow (row places)
 abbrev pub body : ℕ → ℕ → Form (List ℕ × List Row)
 body places transitions = chain (starts places) (λ _. rows places transitions)
 
-abbrev pub netLines : Form (ℕ × (ℕ × (List ℕ × List Row)))
-netLines =
+abbrev pub countedLines : Form (ℕ × (ℕ × (List ℕ × List Row)))
+countedLines =
     chain (keyed (bytes "places=") (number (ranged 1 16)))
     (λ places. chain (keyed (bytes "transitions=") (number (ranged 1 32))) (λ transitions. body places transitions))
+
+abbrev pub netLines : Form (ℕ × (ℕ × (ℕ × (List ℕ × List Row))))
+netLines = chain sheet (λ _. countedLines)
 
 -- where the weights stand: the tokens that t takes from and gives to place p
 abbrev pub takesIn : List ℕ → ℕ → ℕ → ℕ
@@ -112,20 +116,21 @@ rowAt n t =
 unfoldable pub rowsOf : Net → List Row
 rowsOf n = filled (rowAt n) 32 (replicate 32 noRow)
 
-abbrev pub toNet : ℕ × (ℕ × (List ℕ × List Row)) → Net
+abbrev pub toNet : ℕ × (ℕ × (ℕ × (List ℕ × List Row))) → Net
 toNet v =
-    let rs = v .1 .1 .1 in
+    let rs = v .1 .1 .1 .1 in
     record {
-      places = v .0;
-      transitions = v .1 .0;
-      start = v .1 .1 .0;
+      sheet = v .0;
+      places = v .1 .0;
+      transitions = v .1 .1 .0;
+      start = v .1 .1 .1 .0;
       take = takeOf rs;
       give = giveOf rs;
       table = map (λ (r : Row). r .interval) rs;
     }
 
-abbrev pub fromNet : Net → ℕ × (ℕ × (List ℕ × List Row))
-fromNet n = (n .places, (n .transitions, (n .start, rowsOf n)))
+abbrev pub fromNet : Net → ℕ × (ℕ × (ℕ × (List ℕ × List Row)))
+fromNet n = (n .sheet, (n .places, (n .transitions, (n .start, rowsOf n))))
 
 -- the net card
 abbrev pub netCard : Form Net

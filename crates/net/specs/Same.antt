@@ -11,6 +11,7 @@ use Rattle.net.specs.declared.Net.{Net}
 use Rattle.net.specs.Net.{noTransition, takesIn, givesIn}
 
 pub record SameNet (a b : Net) : Type 0 where
+  pub sheet : a .sheet ≡ b .sheet
   pub places : a .places ≡ b .places
   pub transitions : a .transitions ≡ b .transitions
   pub start : (p : ℕ) → p < b .places → getD (a .start) p 0 ≡ getD (b .start) p 0
@@ -29,6 +30,7 @@ writableInterval t = record { earliest = writable (t .earliest); latest = writab
 unfoldable pub writableNet : Net → Net
 writableNet net =
     record {
+      sheet = writable (net .sheet);
       places = writable (net .places);
       transitions = writable (net .transitions);
       start = map writable (net .start);

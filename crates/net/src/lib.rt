@@ -12,9 +12,10 @@ pub struct Transition {
     pub latest: Latest,
 }
 
-// A net. What is taken stands by places, 32 transitions a place, so that a firing finds those that a place is short of side by side; what is given stands by
-// transitions, 16 places a transition. Slots past the counts are no part of it.
+// A net, by the sheet that it is drawn on. What is taken stands by places, 32 transitions a place, so that a firing finds those that a place is short of
+// side by side; what is given stands by transitions, 16 places a transition. Slots past the counts are no part of it.
 pub struct Net {
+    pub sheet: u32,
     pub places: usize,
     pub transitions: usize,
     pub start: [u8; 16],

@@ -80,45 +80,49 @@ module _ (n : Net) where
 
 -- ---- a net
 module _ (n : Net) where
-  pub places-fail : {r : Refusal} → ranged 1 16 (n .places) 1 ≡ Refused r → Refused r ≡ netCard .check n 1
-  places-fail e = sym (rw e refl)
+  pub sheet-fails : {r : Refusal} → ranged 0 9999 (n .sheet) 1 ≡ Refused r → Refused r ≡ netCard .check n 1
+  sheet-fails e = sym (rw e refl)
 
-  pub transitions-fail : {r : Refusal} → ranged 1 16 (n .places) 1 ≡ Passed → ranged 1 32 (n .transitions) 2 ≡ Refused r → Refused r ≡ netCard .check n 1
-  transitions-fail e l = sym (rw (e, l) refl)
+  pub places-fail : {r : Refusal} → ranged 0 9999 (n .sheet) 1 ≡ Passed → ranged 1 16 (n .places) 2 ≡ Refused r → Refused r ≡ netCard .check n 1
+  places-fail h e = sym (rw (h, e) refl)
+
+  pub transitions-fail : {r : Refusal} → ranged 0 9999 (n .sheet) 1 ≡ Passed → ranged 1 16 (n .places) 2 ≡ Passed → ranged 1 32 (n .transitions) 3 ≡ Refused r
+      → Refused r ≡ netCard .check n 1
+  transitions-fail h e l = sym (rw (h, e, l) refl)
 
   -- of its transitions, t are checked
   abbrev pub RowsChecked : ℕ → Type 0
-  RowsChecked t = Checking (row (n .places)) (n .transitions) noRow (rowsOf n) (3 + n .places) t (3 + n .places + 4 * t)
+  RowsChecked t = Checking (row (n .places)) (n .transitions) noRow (rowsOf n) (4 + n .places) t (4 + n .places + 4 * t)
 
   pub rows-begin : RowsChecked 0
   rows-begin =
-      let e : 3 + n .places ≡ 3 + n .places + 4 * 0 = omega arith in
-      subst (Checking (row (n .places)) (n .transitions) noRow (rowsOf n) (3 + n .places) 0) e
-      (checking-start (row (n .places)) (n .transitions) noRow (rowsOf n) (3 + n .places))
+      let e : 4 + n .places ≡ 4 + n .places + 4 * 0 = omega arith in
+      subst (Checking (row (n .places)) (n .transitions) noRow (rowsOf n) (4 + n .places) 0) e
+      (checking-start (row (n .places)) (n .transitions) noRow (rowsOf n) (4 + n .places))
 
-  module _ (small : InBytes n) (p : ranged 1 16 (n .places) 1 ≡ Passed) (q : ranged 1 32 (n .transitions) 2 ≡ Passed) where
-    by-rows : netCard .check n 1 ≡ checks (row (n .places)) (firstOf (n .transitions) noRow (rowsOf n)) (3 + n .places)
+  module _ (small : InBytes n) (h₀ : ranged 0 9999 (n .sheet) 1 ≡ Passed) (p : ranged 1 16 (n .places) 2 ≡ Passed) (q : ranged 1 32 (n .transitions) 3 ≡ Passed) where
+    by-rows : netCard .check n 1 ≡ checks (row (n .places)) (firstOf (n .transitions) noRow (rowsOf n)) (4 + n .places)
     by-rows =
-        let lines = starts-lines (n .places) (n .start) (ranged-within 1 16 (n .places) 1 p .1) in
-        rw (p, q, starts-pass (n .places) 3 (n .start) (small .start), lines, min-eq-left (ranged-within 1 32 (n .transitions) 2 q .1)) refl
+        let lines = starts-lines (n .places) (n .start) (ranged-within 1 16 (n .places) 2 p .1) in
+        rw (h₀, p, q, starts-pass (n .places) 4 (n .start) (small .start), lines, min-eq-left (ranged-within 1 32 (n .transitions) 3 q .1)) refl
 
     module _ {t : ℕ} (w : RowsChecked t) where
       -- what is said of the next one's interval
       abbrev interval : Checked
-      interval = intervalChecked n t (3 + n .places + 4 * t)
+      interval = intervalChecked n t (4 + n .places + 4 * t)
 
       module _ (h : t < n .transitions) where
-        checked-row : row (n .places) .check (getD (rowsOf n) t noRow) (3 + n .places + 4 * t) ≡ interval
+        checked-row : row (n .places) .check (getD (rowsOf n) t noRow) (4 + n .places + 4 * t) ≡ interval
         checked-row =
-            ap (λ r. row (n .places) .check r (3 + n .places + 4 * t)) (row-there n t (omega (arith, ranged-within 1 32 (n .transitions) 2 q .1)))
-            ∙ row-check n small t (3 + n .places + 4 * t)
+            ap (λ r. row (n .places) .check r (4 + n .places + 4 * t)) (row-there n t (omega (arith, ranged-within 1 32 (n .transitions) 3 q .1)))
+            ∙ row-check n small t (4 + n .places + 4 * t)
 
         pub interval-fails : {r : Refusal} → interval ≡ Refused r → Refused r ≡ netCard .check n 1
         interval-fails e = sym (by-rows ∙ checking-refused w h (checked-row ∙ e))
 
         pub interval-passes : interval ≡ Passed → RowsChecked (t + 1)
         interval-passes e =
-            let next : 3 + n .places + 4 * t + 4 ≡ 3 + n .places + 4 * (t + 1) = omega arith in
+            let next : 4 + n .places + 4 * t + 4 ≡ 4 + n .places + 4 * (t + 1) = omega arith in
             rw next at (checking-more w h (checked-row ∙ e))
 
       pub all-pass : n .transitions ≤ t → Passed ≡ netCard .check n 1

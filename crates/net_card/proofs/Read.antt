@@ -17,6 +17,7 @@ use Rattle.form.specs.declared.LineRead.{LineRead}
 use Rattle.form.specs.declared.LineRead.the-variants.{Next, Stopped}
 use Rattle.form.specs.Form.{Found, found, refused, andThen, Form, keyed, exactly}
 use Rattle.form.specs.Line.{ranged, number, items}
+use Rattle.form.specs.Sheet.{sheet}
 use Rattle.form.specs.Code.{numberLine}
 use Rattle.form.proofs.Answers.{number-found, number-refused, chain-parts, exactly-lines}
 use Rattle.form.proofs.Found.{not-both, found-value, found-place, then-found, then-refused, then-then}
@@ -25,10 +26,12 @@ use Rattle.form.proofs.Lines.{ranged-read}
 use Rattle.form.proofs.Loops.{Reading, reading-start, reading-more, reading-refused, reading-done}
 use Rattle.net.specs.declared.Latest.{Latest}
 use Rattle.net.specs.declared.Transition.{Transition}
-use Rattle.net.specs.Net.{latest, weights, Row, toRow, row, noRow, noTransition, starts, rows, body, takeOf, giveOf, toNet, netCard}
+use Rattle.net.specs.declared.Net.{Net}
+use Rattle.net.specs.Net.{latest, weights, Row, toRow, row, noRow, noTransition, starts, rows, body, countedLines, takeOf, giveOf, toNet, netCard}
+use Rattle.net_card.specs.declared.Heading.{Heading}
 use Rattle.net_card.specs.declared.NetRead.{NetRead}
 use Rattle.net_card.specs.declared.IntervalRead.the-variants.{Value, Refused}
-use Rattle.net_card.specs.Code.{intervalLines, intervalRead, foundIn, spread, storedIn, storedAs, netRead, behindCounts, started}
+use Rattle.net_card.specs.Code.{intervalLines, intervalRead, foundIn, spread, storedIn, storedAs, netRead, behindSheet, behindCounts, started}
 use Rattle.net_card.proofs.Intervals.{interval-found, interval-refused}
 use Rattle.net_card.proofs.Tables.{take-empty, give-empty, take-stored, give-stored}
 
@@ -133,18 +136,18 @@ row-free held t e =
 -- of n transitions, t are read; `held` is what their lines say, which stands in three arrays
 pub record RowsRead (places n : ℕ) (s : List ℕ) (at : ℕ) (take give : List ℕ) (table : List Transition) (t to : ℕ) : Type 0 where
   pub held : List Row
-  pub reading : Reading (row places) n 32 noRow s at (3 + places) held t to (3 + places + 4 * t)
+  pub reading : Reading (row places) n 32 noRow s at (4 + places) held t to (4 + places + 4 * t)
   pub taken : take ≡ takeOf held
   pub given : give ≡ giveOf held
   pub intervals : table ≡ map (λ (r : Row). r .interval) held
 
 pub rows-start : (places n : ℕ) (s : List ℕ) (at : ℕ) → n ≤ 32 → RowsRead places n s at (replicate 512 0) (replicate 512 0) (replicate 32 noTransition) 0 at
 rows-start places n s at few =
-    let e : 3 + places ≡ 3 + places + 4 * 0 = omega arith in
+    let e : 4 + places ≡ 4 + places + 4 * 0 = omega arith in
     record {
       held = replicate 32 noRow;
-      reading = subst (Reading (row places) n 32 noRow s at (3 + places) (replicate 32 noRow) 0 at) e
-          (reading-start (row places) n 32 noRow s at (3 + places) few);
+      reading = subst (Reading (row places) n 32 noRow s at (4 + places) (replicate 32 noRow) 0 at) e
+          (reading-start (row places) n 32 noRow s at (4 + places) few);
       taken = sym take-empty;
       given = sym give-empty;
       intervals = refl;
@@ -154,19 +157,25 @@ rows-start places n s at few =
 rows-exactly : (places n : ℕ) (s : List ℕ) (at line : ℕ) → n ≤ 32 → rows places n .read s at line ≡ exactly n 32 noRow (row places) .read s at line
 rows-exactly places n s at line few = rw (min-eq-left few) refl
 
-module _ (places : ℕ) {n : ℕ} (start : List ℕ) {s : List ℕ} {at : ℕ} {take give : List ℕ} {table : List Transition} {t to : ℕ}
-    (w : RowsRead places n s at take give table t to) where
+module _ (head : Heading) (start : List ℕ) {s : List ℕ} {at : ℕ} {take give : List ℕ} {table : List Transition} {t to : ℕ}
+    (w : RowsRead (head .places) (head .transitions) s at take give table t to) where
+  abbrev places : ℕ
+  places = head .places
+
+  abbrev n : ℕ
+  n = head .transitions
+
   -- the answer for the whole net
   abbrev net : NetRead
-  net = started places n start (rows places n .read s at (3 + places))
+  net = started head start (rows places n .read s at (4 + places))
 
   -- the line of the next transition
   abbrev line : ℕ
-  line = 3 + places + 4 * t
+  line = 4 + places + 4 * t
 
   module _ (h : t < n) where
     refused-row : {r : Refusal} → row places .read s to line ≡ refused r → netRead (refused r) ≡ net
-    refused-row e = ap (started places n start) (sym (rows-exactly places n s at (3 + places) (w .reading .room) ∙ reading-refused (w .reading) h e))
+    refused-row e = ap (started head start) (sym (rows-exactly places n s at (4 + places) (w .reading .room) ∙ reading-refused (w .reading) h e))
 
     pub interval-stopped : {r : Refusal} → intervalRead (intervalLines .read s to line) ≡ Refused r → netRead (refused r) ≡ net
     interval-stopped e = refused-row (row-read places s to line ∙ rw (interval-refused (intervalLines .read s to line) e) refl)
@@ -194,10 +203,10 @@ module _ (places : ℕ) {n : ℕ} (start : List ℕ) {s : List ℕ} {at : ℕ} {
           let long = w .reading .whole in
           let small : t < 32 = omega (arith, w .reading .room) in
           let free = row-free (w .held) t (w .reading .filled) in
-          let below : line + 4 ≡ 3 + places + 4 * (t + 1) = omega arith in
+          let below : line + 4 ≡ 4 + places + 4 * (t + 1) = omega arith in
           record {
             held = set (w .held) t r;
-            reading = subst (Reading (row places) n 32 noRow s at (3 + places) (set (w .held) t r) (t + 1) after) below (reading-more (w .reading) h read);
+            reading = subst (Reading (row places) n 32 noRow s at (4 + places) (set (w .held) t r) (t + 1) after) below (reading-more (w .reading) h read);
             taken = taken ∙ ap (spread (firstOf places 0 (v .0)) t 32) (w .taken)
                 ∙ take-stored (w .held) r t places long small few free
                 (list-clean (bytes "take=") places (v .0) s next (parts .place) (line + 2) few (parts .first));
@@ -215,86 +224,102 @@ module _ (places : ℕ) {n : ℕ} (start : List ℕ) {s : List ℕ} {at : ℕ} {
           (sym (ap (λ (x : List ℕ × List ℕ). x .0) arrays)) (sym (ap (λ (x : List ℕ × List ℕ). x .1) arrays))
 
   pub rows-done : n ≤ t
-      → record { read = Next to; net = record { places = places; transitions = n; start = start; take = take; give = give; table = table } } ≡ net
+      → record {
+        read = Next to;
+        net = record { sheet = head .sheet; places = places; transitions = n; start = start; take = take; give = give; table = table };
+      } ≡ net
   rows-done h =
-      rw (rows-exactly places n s at (3 + places) (w .reading .room) ∙ reading-done (w .reading) h, w .taken, w .given, w .intervals) refl
+      rw (rows-exactly places n s at (4 + places) (w .reading .room) ∙ reading-done (w .reading) h, w .taken, w .given, w .intervals) refl
 
 -- ---- the lines `start`
 -- one of them
 abbrev pub startLine : Form ℕ
 startLine = keyed (bytes "start=") (number (ranged 0 255))
 
-pub start-begins : (places : ℕ) (s : List ℕ) (at : ℕ) {l : List ℕ} → places ≤ 16 → l ≡ replicate 16 0 → Reading startLine places 16 0 s at 3 l 0 at (3 + 0)
-start-begins places s at few e = rw e (reading-start startLine places 16 0 s at 3 few)
+pub start-begins : (places : ℕ) (s : List ℕ) (at : ℕ) {l : List ℕ} → places ≤ 16 → l ≡ replicate 16 0 → Reading startLine places 16 0 s at 4 l 0 at (4 + 0)
+start-begins places s at few e = rw e (reading-start startLine places 16 0 s at 4 few)
 
 -- as many lines as the net has places
 pub starts-lines : (places : ℕ) (l : List ℕ) → places ≤ 16 → starts places .lines l ≡ places
 starts-lines places l few = exactly-lines (min places 16) 16 0 startLine 1 (λ n. refl) l ∙ one-mul (min places 16) ∙ min-eq-left few
 
 -- the starts that a net with so many places has
-starts-exactly : (places : ℕ) (s : List ℕ) (at : ℕ) → places ≤ 16 → starts places .read s at 3 ≡ exactly places 16 0 startLine .read s at 3
+starts-exactly : (places : ℕ) (s : List ℕ) (at : ℕ) → places ≤ 16 → starts places .read s at 4 ≡ exactly places 16 0 startLine .read s at 4
 starts-exactly places s at few = rw (min-eq-left few) refl
 
-module _ {places : ℕ} {s : List ℕ} {at : ℕ} {l : List ℕ} {i to : ℕ} (w : Reading startLine places 16 0 s at 3 l i to (3 + i)) where
+module _ {places : ℕ} {s : List ℕ} {at : ℕ} {l : List ℕ} {i to : ℕ} (w : Reading startLine places 16 0 s at 4 l i to (4 + i)) where
   module _ (h : i < places) where
-    pub start-stopped : {r : Refusal} → numberLine (startLine .read s to (3 + i)) ≡ number-line.Refused r → refused r ≡ starts places .read s at 3
-    start-stopped e = sym (starts-exactly places s at (w .room) ∙ reading-refused w h (number-refused (startLine .read s to (3 + i)) e))
+    pub start-stopped : {r : Refusal} → numberLine (startLine .read s to (4 + i)) ≡ number-line.Refused r → refused r ≡ starts places .read s at 4
+    start-stopped e = sym (starts-exactly places s at (w .room) ∙ reading-refused w h (number-refused (startLine .read s to (4 + i)) e))
 
-    module _ {v next : ℕ} (e : numberLine (startLine .read s to (3 + i)) ≡ number-line.Value v next) where
+    module _ {v next : ℕ} (e : numberLine (startLine .read s to (4 + i)) ≡ number-line.Value v next) where
       pub start-small : v ≤ 255
-      start-small = ranged-read (bytes "start=") 0 255 (lit< tt) v s to next (3 + i) (number-found (startLine .read s to (3 + i)) e) .1
+      start-small = ranged-read (bytes "start=") 0 255 (lit< tt) v s to next (4 + i) (number-found (startLine .read s to (4 + i)) e) .1
 
-      pub start-more : Reading startLine places 16 0 s at 3 (set l i v) (i + 1) next (3 + (i + 1))
+      pub start-more : Reading startLine places 16 0 s at 4 (set l i v) (i + 1) next (4 + (i + 1))
       start-more =
-          let q : 3 + i + 1 ≡ 3 + (i + 1) = omega arith in
-          rw q at (reading-more w h (number-found (startLine .read s to (3 + i)) e))
+          let q : 4 + i + 1 ≡ 4 + (i + 1) = omega arith in
+          rw q at (reading-more w h (number-found (startLine .read s to (4 + i)) e))
 
-  pub start-done : places ≤ i → found l to ≡ starts places .read s at 3
+  pub start-done : places ≤ i → found l to ≡ starts places .read s at 4
   start-done h = sym (starts-exactly places s at (w .room) ∙ reading-done w h)
 
 -- ---- the lines behind the counts
-module _ (places transitions : ℕ) (s : List ℕ) (at : ℕ) (r : LineRead) (start : List ℕ) (p : foundIn r start ≡ starts places .read s at 3) where
-  pub starts-stopped : {q : Refusal} → r ≡ Stopped q → netRead (refused q) ≡ behindCounts places transitions (body places transitions .read s at 3)
+module _ (head : Heading) (s : List ℕ) (at : ℕ) (r : LineRead) (start : List ℕ) (p : foundIn r start ≡ starts (head .places) .read s at 4) where
+  pub starts-stopped : {q : Refusal} → r ≡ Stopped q → netRead (refused q) ≡ behindCounts head (body (head .places) (head .transitions) .read s at 4)
   starts-stopped e = rw (in-stopped r start p e)
 
-  pub starts-found : places ≤ 16 → {next : ℕ} → r ≡ Next next
-      → started places transitions start (rows places transitions .read s next (3 + places))
-      ≡ behindCounts places transitions (body places transitions .read s at 3)
+  pub starts-found : head .places ≤ 16 → {next : ℕ} → r ≡ Next next
+      → started head start (rows (head .places) (head .transitions) .read s next (4 + head .places))
+      ≡ behindCounts head (body (head .places) (head .transitions) .read s at 4)
   starts-found few {next} e =
-      rw (in-next r start p e, starts-lines places start few) (go (rows places transitions .read s next (3 + places)))
-    where
-      go : (f : Found (List Row)) → started places transitions start f ≡ behindCounts places transitions (andThen f (λ b end. found (start, b) end))
-      go (found b end) = refl
-      go (refused q) = refl
+      let f = rows (head .places) (head .transitions) .read s next (4 + head .places) in
+      let whole : List ℕ × List Row → ℕ → Found Net = λ b end. found (toNet (head .sheet, (head .places, (head .transitions, b)))) end in
+      rw (in-next r start p e, starts-lines (head .places) start few) (ap netRead (sym (then-then f (λ b end. found (start, b) end) whole)))
 
--- ---- a net
+-- ---- the lines behind the sheet
 -- the values of the lines put together, at once or one after the other
-counted-together : (p t : ℕ) (f : Found (List ℕ × List Row))
-    → behindCounts p t f ≡ netRead (andThen (andThen (andThen f (λ b end. found (t, b) end)) (λ b end. found (p, b) end)) (λ v next. found (toNet v) next))
-counted-together p t (found w next) = refl
-counted-together p t (refused r) = refl
+counted-together : (h p t : ℕ) (f : Found (List ℕ × List Row))
+    → behindCounts (record { sheet = h; places = p; transitions = t }) f ≡ behindSheet h (andThen (andThen f (λ b end. found (t, b) end)) (λ b end. found (p, b) end))
+counted-together h p t (found w next) = refl
+counted-together h p t (refused r) = refl
 
-module _ (s : List ℕ) where
+module _ (sheet : ℕ) (s : List ℕ) (at : ℕ) where
+  -- the answer for the whole net
+  abbrev counted : NetRead
+  counted = behindSheet sheet (countedLines .read s at 2)
+
   -- the first count
   abbrev placesLine : Found ℕ
-  placesLine = keyed (bytes "places=") (number (ranged 1 16)) .read s 0 1
+  placesLine = keyed (bytes "places=") (number (ranged 1 16)) .read s at 2
 
-  pub places-stopped : {r : Refusal} → numberLine placesLine ≡ number-line.Refused r → netRead (refused r) ≡ netRead (netCard .read s 0 1)
+  pub places-stopped : {r : Refusal} → numberLine placesLine ≡ number-line.Refused r → netRead (refused r) ≡ counted
   places-stopped e = rw (number-refused placesLine e)
 
   module _ {p next : ℕ} (e : numberLine placesLine ≡ number-line.Value p next) where
     -- the second one
     abbrev transitionsLine : Found ℕ
-    transitionsLine = keyed (bytes "transitions=") (number (ranged 1 32)) .read s next 2
+    transitionsLine = keyed (bytes "transitions=") (number (ranged 1 32)) .read s next 3
 
-    pub transitions-stopped : {r : Refusal} → numberLine transitionsLine ≡ number-line.Refused r → netRead (refused r) ≡ netRead (netCard .read s 0 1)
+    pub transitions-stopped : {r : Refusal} → numberLine transitionsLine ≡ number-line.Refused r → netRead (refused r) ≡ counted
     transitions-stopped e′ = rw (number-found placesLine e, number-refused transitionsLine e′)
 
     module _ {t to : ℕ} (e′ : numberLine transitionsLine ≡ number-line.Value t to) where
-      pub net-read : behindCounts p t (body p t .read s to 3) ≡ netRead (netCard .read s 0 1)
-      net-read = rw (number-found placesLine e, number-found transitionsLine e′) (counted-together p t (body p t .read s to 3))
+      pub counts-read : behindCounts (record { sheet = sheet; places = p; transitions = t }) (body p t .read s to 4) ≡ counted
+      counts-read = rw (number-found placesLine e, number-found transitionsLine e′) (counted-together sheet p t (body p t .read s to 4))
 
       pub counts-small : (1 ≤ p) × (p ≤ 16) × (t ≤ 32)
       counts-small =
-          let h = ranged-read (bytes "places=") 1 16 (lit< tt) p s 0 next 1 (number-found placesLine e) in
-          (h .0, h .1, ranged-read (bytes "transitions=") 1 32 (lit< tt) t s next to 2 (number-found transitionsLine e′) .1)
+          let h = ranged-read (bytes "places=") 1 16 (lit< tt) p s at next 2 (number-found placesLine e) in
+          (h .0, h .1, ranged-read (bytes "transitions=") 1 32 (lit< tt) t s next to 3 (number-found transitionsLine e′) .1)
+
+-- ---- a net
+module _ (s : List ℕ) where
+  pub sheet-stopped : {r : Refusal} → numberLine (sheet .read s 0 1) ≡ number-line.Refused r → netRead (refused r) ≡ netRead (netCard .read s 0 1)
+  sheet-stopped e = rw (number-refused (sheet .read s 0 1) e)
+
+  pub net-read : {h next : ℕ} → numberLine (sheet .read s 0 1) ≡ number-line.Value h next
+      → behindSheet h (countedLines .read s next 2) ≡ netRead (netCard .read s 0 1)
+  net-read {h} {next} e =
+      let together = then-then (countedLines .read s next 2) (λ v end. found (h, v) end) (λ v end. found (toNet v) end) in
+      rw (number-found (sheet .read s 0 1) e) (ap netRead (sym together))

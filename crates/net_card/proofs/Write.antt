@@ -28,6 +28,6 @@ pub row-puts : (n : Net) (t : ℕ) {take give s out out′ : List ℕ} {at to to
     → Puts out to (weights (n .places) .text (take, give)) to′ out′ → Puts s at (row (n .places) .text (getD (rowsOf n) t noRow)) to′ out′
 row-puts n t h e e′ p q = rw (row-there n t h, ← e, ← e′) (rw append-assoc at (puts-then p q))
 
--- a card fits into a buffer of 12,007 bytes
-pub card-fits : (n : Net) → netCard .check n 1 ≡ Passed → (n .places ≤ 16) × (n .transitions ≤ 32) × (0 + length (netCard .text n) ≤ 12007)
+-- a card fits into a buffer of 12,023 bytes
+pub card-fits : (n : Net) → netCard .check n 1 ≡ Passed → (n .places ≤ 16) × (n .transitions ≤ 32) × (0 + length (netCard .text n) ≤ 12023)
 card-fits n p = (net-places n p .1, net-transitions n p .1, omega (arith, net-short n p))

@@ -13,6 +13,7 @@ use Rattle.net.specs.declared.Latest.{Latest}
 use Rattle.net.specs.declared.Transition.{Transition}
 use Rattle.net.specs.declared.Net.{Net}
 use Rattle.net.specs.Net.{latest, noTransition, Row, toNet}
+use Rattle.net_card.specs.declared.Heading.{Heading}
 use Rattle.net_card.specs.declared.IntervalRead.{IntervalRead}
 use Rattle.net_card.specs.declared.IntervalRead.the-variants.{Value, Refused}
 use Rattle.net_card.specs.declared.Slots.{Slots}
@@ -61,6 +62,7 @@ storedAs places t take give f =
 abbrev pub noNet : Net
 noNet =
     record {
+      sheet = 0;
       places = 0;
       transitions = 0;
       start = replicate 16 0;
@@ -73,13 +75,17 @@ noNet =
 abbrev pub netRead : Found Net → NetRead
 netRead f = record { read = lineRead f; net = valueOr noNet f }
 
--- a net from its counts and what the lines behind them say
-abbrev pub behindCounts : ℕ → ℕ → Found (List ℕ × List Row) → NetRead
-behindCounts places transitions f = netRead (andThen f (λ b next. found (toNet (places, (transitions, b))) next))
+-- a net from its sheet and what the lines behind that say
+abbrev pub behindSheet : ℕ → Found (ℕ × (ℕ × (List ℕ × List Row))) → NetRead
+behindSheet sheet f = netRead (andThen f (λ v next. found (toNet (sheet, v)) next))
+
+-- from its counts too and what the lines behind them say
+abbrev pub behindCounts : Heading → Found (List ℕ × List Row) → NetRead
+behindCounts head f = netRead (andThen f (λ b next. found (toNet (head .sheet, (head .places, (head .transitions, b)))) next))
 
 -- and from its tokens and what the lines of its transitions say
-abbrev pub started : ℕ → ℕ → List ℕ → Found (List Row) → NetRead
-started places transitions start f = netRead (andThen f (λ rs next. found (toNet (places, (transitions, (start, rs)))) next))
+abbrev pub started : Heading → List ℕ → Found (List Row) → NetRead
+started head start f = netRead (andThen f (λ rs next. found (toNet (head .sheet, (head .places, (head .transitions, (start, rs))))) next))
 
 -- where the unread remainder of an input starts: behind the card, or at the front where the card is refused
 abbrev pub remainderStart : LineRead → ℕ

@@ -21,10 +21,10 @@ ghost use Rattle.reply.specs.Respond.{Responded};
 ghost use Rattle.text.specs.Key.{bytes};
 ghost use Rattle.form.specs.Form.{keyed, refused};
 ghost use Rattle.form.specs.Line.{items};
-ghost use Rattle.net.specs.Net.{latest, latestChecked, latestText, weights, starts, rows, rowsOf, body, netCard, netText};
+ghost use Rattle.net.specs.Net.{latest, latestChecked, latestText, weights, starts, rows, rowsOf, body, countedLines, netCard, netText};
 ghost use Rattle.net_card.specs.Code.{intervalLines, intervalRead, boundsRead};
 ghost use Rattle.net_card.specs.Code.{foundIn, storedIn, storedAs};
-ghost use Rattle.net_card.specs.Code.{netRead, behindCounts, started, remainderStart};
+ghost use Rattle.net_card.specs.Code.{netRead, behindSheet, behindCounts, started, remainderStart};
 
 // A transition's interval and the position behind its two lines, or why there is none.
 enum IntervalRead {
@@ -37,6 +37,13 @@ struct Slots {
     count: usize,
     first: usize,
     step: usize,
+}
+
+// The values of the first three lines of a net card.
+struct Heading {
+    sheet: u32,
+    places: usize,
+    transitions: usize,
 }
 
 // A net that was read and where the unread remainder starts, or why the card is refused.
@@ -225,12 +232,12 @@ fn weight_lines(
 // The lines `start`, whose tokens are stored.
 fn start_lines(s: &[u8], at: usize, places: usize, start: &mut [u8; 16]) -> LineRead
     requires { ⌜ (places ≤ 16) × (now start ≡ replicate 16 0) ⌝ }
-    ensures { λ r. ⌜ foundIn r (now (start .exit)) ≡ starts places .read (now (s .entry)) at 3 ⌝ }
+    ensures { λ r. ⌜ foundIn r (now (start .exit)) ≡ starts places .read (now (s .entry)) at 4 ⌝ }
 {
     let mut to = at;
     let mut i: usize = 0;
     while i < places {
-        let n = form::number_line(s, to, b"start=", 0, 255, 3 + i);
+        let n = form::number_line(s, to, b"start=", 0, 255, 4 + i);
         match n {
             NumberLine::Refused(r) => return LineRead::Stopped(r),
             NumberLine::Value { value, next } => {
@@ -250,6 +257,7 @@ fn refused_net(r: Refusal) -> NetRead
     NetRead {
         read: LineRead::Stopped(r),
         net: Net {
+            sheet: 0,
             places: 0,
             transitions: 0,
             start: [0u8; 16],
@@ -261,22 +269,22 @@ fn refused_net(r: Refusal) -> NetRead
 }
 
 // The lines of all transitions, behind the tokens of the start.
-fn table_lines(s: &[u8], at: usize, places: usize, transitions: usize, start: [u8; 16]) -> NetRead
-    requires { ⌜ (1 ≤ places) × (places ≤ 16) × (transitions ≤ 32) ⌝ }
-    ensures { λ r. ⌜ r ≡ started places transitions start (rows places transitions .read (now (s .entry)) at (3 + places)) ⌝ }
+fn table_lines(s: &[u8], at: usize, head: Heading, start: [u8; 16]) -> NetRead
+    requires { ⌜ (1 ≤ head .places) × (head .places ≤ 16) × (head .transitions ≤ 32) ⌝ }
+    ensures { λ r. ⌜ r ≡ started head start (rows (head .places) (head .transitions) .read (now (s .entry)) at (4 + head .places)) ⌝ }
 {
     let mut take = [0u8; 512];
     let mut give = [0u8; 512];
     let mut table = NO_TABLE;
     let mut to = at;
     let mut t: usize = 0;
-    while t < transitions {
-        let line = 3 + places + 4 * t;
+    while t < head.transitions {
+        let line = 4 + head.places + 4 * t;
         let i = interval_lines(s, to, line);
         match i {
             IntervalRead::Refused(r) => return refused_net(r),
             IntervalRead::Value { interval, next } => {
-                let w = weight_lines(s, next, line + 2, places, t, &mut take, &mut give);
+                let w = weight_lines(s, next, line + 2, head.places, t, &mut take, &mut give);
                 match w {
                     LineRead::Stopped(r) => return refused_net(r),
                     LineRead::Next(after) => {
@@ -291,8 +299,9 @@ fn table_lines(s: &[u8], at: usize, places: usize, transitions: usize, start: [u
     NetRead {
         read: LineRead::Next(to),
         net: Net {
-            places,
-            transitions,
+            sheet: head.sheet,
+            places: head.places,
+            transitions: head.transitions,
             start,
             take,
             give,
@@ -302,15 +311,45 @@ fn table_lines(s: &[u8], at: usize, places: usize, transitions: usize, start: [u
 }
 
 // The lines behind the two counts.
-fn net_lines(s: &[u8], at: usize, places: usize, transitions: usize) -> NetRead
-    requires { ⌜ (1 ≤ places) × (places ≤ 16) × (transitions ≤ 32) ⌝ }
-    ensures { λ r. ⌜ r ≡ behindCounts places transitions (body places transitions .read (now (s .entry)) at 3) ⌝ }
+fn net_lines(s: &[u8], at: usize, head: Heading) -> NetRead
+    requires { ⌜ (1 ≤ head .places) × (head .places ≤ 16) × (head .transitions ≤ 32) ⌝ }
+    ensures { λ r. ⌜ r ≡ behindCounts head (body (head .places) (head .transitions) .read (now (s .entry)) at 4) ⌝ }
 {
     let mut start = [0u8; 16];
-    let read = start_lines(s, at, places, &mut start);
+    let read = start_lines(s, at, head.places, &mut start);
     match read {
         LineRead::Stopped(r) => refused_net(r),
-        LineRead::Next(next) => table_lines(s, next, places, transitions, start),
+        LineRead::Next(next) => table_lines(s, next, head, start),
+    }
+}
+
+// The two counts and the lines that they ask for, behind the sheet.
+fn counted_lines(s: &[u8], at: usize, sheet: u32) -> NetRead
+    ensures { λ r. ⌜ r ≡ behindSheet sheet (countedLines .read (now (s .entry)) at 2) ⌝ }
+{
+    let p = form::number_line(s, at, b"places=", 1, 16, 2);
+    match p {
+        NumberLine::Refused(r) => refused_net(r),
+        NumberLine::Value {
+            value: places,
+            next: at_transitions,
+        } => {
+            let t = form::number_line(s, at_transitions, b"transitions=", 1, 32, 3);
+            match t {
+                NumberLine::Refused(r) => refused_net(r),
+                NumberLine::Value {
+                    value: transitions,
+                    next: at_start,
+                } => {
+                    let head = Heading {
+                        sheet,
+                        places: places as usize,
+                        transitions: transitions as usize,
+                    };
+                    net_lines(s, at_start, head)
+                }
+            }
+        }
     }
 }
 
@@ -318,22 +357,10 @@ fn net_lines(s: &[u8], at: usize, places: usize, transitions: usize) -> NetRead
 pub fn read_net(s: &[u8]) -> NetRead
     ensures { λ r. ⌜ r ≡ netRead (netCard .read (now (s .entry)) 0 1) ⌝ }
 {
-    let p = form::number_line(s, 0, b"places=", 1, 16, 1);
-    match p {
+    let n = form::number_line(s, 0, b"sheet=", 0, 9999, 1);
+    match n {
         NumberLine::Refused(r) => refused_net(r),
-        NumberLine::Value {
-            value: places,
-            next: at_transitions,
-        } => {
-            let t = form::number_line(s, at_transitions, b"transitions=", 1, 32, 2);
-            match t {
-                NumberLine::Refused(r) => refused_net(r),
-                NumberLine::Value {
-                    value: transitions,
-                    next: at_start,
-                } => net_lines(s, at_start, places as usize, transitions as usize),
-            }
-        }
+        NumberLine::Value { value: sheet, next } => counted_lines(s, next, sheet),
     }
 }
 
@@ -374,15 +401,19 @@ pub fn check_net(net: Net) -> Checked
 {
     let places = net.places;
     let transitions = net.transitions;
-    let p = form::check_range(places as u64, 1, 16, 1);
+    let h = form::check_range(net.sheet as u64, 0, 9999, 1);
+    let Checked::Passed = h else {
+        return h;
+    };
+    let p = form::check_range(places as u64, 1, 16, 2);
     let Checked::Passed = p else {
         return p;
     };
-    let n = form::check_range(transitions as u64, 1, 32, 2);
+    let n = form::check_range(transitions as u64, 1, 32, 3);
     let Checked::Passed = n else {
         return n;
     };
-    let line = 3 + places;
+    let line = 4 + places;
     let mut t: usize = 0;
     while t < transitions {
         let c = check_interval(net.table[t], line + 4 * t);
@@ -478,14 +509,15 @@ fn put_net(out: &mut [u8], at: usize, net: Net) -> usize
 {
     let places = net.places;
     let transitions = net.transitions;
-    let to = form::put_number_line(&mut *out, at, b"places=", places as u64);
+    let at_places = form::put_number_line(&mut *out, at, b"sheet=", net.sheet as u64);
+    let to = form::put_number_line(&mut *out, at_places, b"places=", places as u64);
     let at_start = form::put_number_line(&mut *out, to, b"transitions=", transitions as u64);
     let start = net.start;
     let at_table = put_start(&mut *out, at_start, start, places);
     put_table(out, at_table, net)
 }
 
-// Writes the card of a net that passes its check. The longest card has 12,007 bytes.
+// Writes the card of a net that passes its check. A reading looks at 12,023 bytes, and no card has more.
 pub fn write_net(net: Net, out: &mut [u8]) -> Reply
     ensures { λ r. ⌜ Responded (netText net) (now (out .entry)) r (now (out .exit)) ⌝ }
 {
@@ -493,7 +525,7 @@ pub fn write_net(net: Net, out: &mut [u8]) -> Reply
     match c {
         Checked::Refused(r) => Reply::Refused(r),
         Checked::Passed => {
-            let mut card = [0u8; 12007];
+            let mut card = [0u8; 12023];
             let n = put_net(&mut card, 0, net);
             reply::respond(&card[..n], out)
         }

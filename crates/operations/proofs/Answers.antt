@@ -28,7 +28,7 @@ use Rattle.firing.specs.Claims.{view}
 use Rattle.firing.proofs.Accept.{accepted-allowed}
 use Rattle.timing.specs.Schedule.{Scheduled, timed, unschedulable}
 use Rattle.timing.specs.Rounding.{timetableRun}
-use Rattle.cards.specs.Cards.{readRun, runChecked}
+use Rattle.cards.specs.Cards.{cardOf, readRun, runChecked}
 use Rattle.cards.proofs.Cards.{run-reads-itself}
 use Rattle.operations.specs.Operation.{onceChecked}
 use Rattle.operations.specs.Replay.{endText, ended}
@@ -52,6 +52,10 @@ end-answered net c st = (go c, λ e. (endText net (view st), rw e refl))
     go (checked.Refused r) a = absurd (no-answer (a .1))
 
 -- ---- behind a check
+-- two answers that are one have the same bytes
+pub answer-bytes : {a b : List ℕ} → answer a ≡ answer b → a ≡ b
+answer-bytes e = cc
+
 once-refusal : (c : Checked) (bytes : List ℕ) (e : Refusal) → (onceChecked c (answer bytes) ≡ refusal e) ↔ (c ≡ checked.Refused e)
 once-refusal checked.Passed bytes e = (λ q. absurd (no-answer (sym q)), λ q. let z : _≡_ {A = ℕ} 0 1 = cc in absurd (omega arith))
 once-refusal (checked.Refused q) bytes e = (λ p. cc, λ p. cc)
@@ -62,6 +66,12 @@ once-answer c o bytes = (go c, λ p. rw (p .0) (p .1))
     go : (c : Checked) → onceChecked c o ≡ answer bytes → (c ≡ checked.Passed) × (o ≡ answer bytes)
     go checked.Passed e = (refl, e)
     go (checked.Refused r) e = absurd (no-answer e)
+
+-- work that counts once a check is passed: what refuses is the check, or the work behind it
+pub once-told : {P : Type 0} {e : Refusal} (c : Checked) (o : Outcome) → (c ≡ checked.Refused e → P) → (c ≡ checked.Passed → o ≡ refusal e → P)
+    → onceChecked c o ≡ refusal e → P
+once-told checked.Passed o first then q = then refl q
+once-told (checked.Refused r) o first then q = first cc
 
 pub once-answered : (c : Checked) (o : Outcome) → Answered (onceChecked c o) ↔ ((c ≡ checked.Passed) × Answered o)
 once-answered c o = (
@@ -92,11 +102,11 @@ module _ (net : Net) (r : Run) where
 -- ---- a schedule
 module _ (net : Net) (o : Order) where
   abbrev pub timetableText : List ℕ → List ℕ
-  timetableText waits = runCard (net .transitions) .text (timetableRun (o .memory) (firesOf o) waits)
+  timetableText waits = cardOf runCard net .text (timetableRun (o .sheet) (o .memory) (firesOf o) waits)
 
   pub schedule-answer : (s : Scheduled) (bytes : List ℕ) → scheduleText net o s ≡ answer bytes
       → (waits : List ℕ) × (s ≡ timed waits) × (timetableText waits ≡ bytes)
-  schedule-answer (timed waits) bytes e = (waits, refl, cc)
+  schedule-answer (timed waits) bytes e = (waits, refl, answer-bytes {a = timetableText waits} {b = bytes} e)
   schedule-answer (unschedulable r) bytes e = absurd (no-answer e)
 
   pub schedule-refusal : (s : Scheduled) (r : Refusal) → (scheduleText net o s ≡ refusal r) ↔ (s ≡ unschedulable r)
@@ -112,8 +122,8 @@ module _ (net : Net) (o : Order) where
 
 -- ---- the card of a run in whole ticks that is accepted
 module _ (net : Net) (restarts : Restart) (r : Run) (ticks : r .denominator ≡ 1) (p : runChecked net r ≡ checked.Passed)
-    (a : replay net restarts r .checked ≡ checked.Passed) (clean : runCard (net .transitions) .clean r ≡ r) where
-  pub whole-tick-run : (bytes : List ℕ) → runCard (net .transitions) .text r ≡ bytes → WholeTickRun net restarts bytes r
+    (a : replay net restarts r .checked ≡ checked.Passed) (clean : cardOf runCard net .clean r ≡ r) where
+  pub whole-tick-run : (bytes : List ℕ) → cardOf runCard net .text r ≡ bytes → WholeTickRun net restarts bytes r
   whole-tick-run bytes e =
       record {
         is-card = subst (λ (l : List ℕ). readRun net l ≡ found r (length l)) e (run-reads-itself net r p clean);

@@ -1,11 +1,11 @@
 -- The demands, proved as specs/Demands.antt states them, under the same names. Each follows from a law of its subject in the crates below, and from what an
 -- operation does around it: check or read, reply, write.
-use Prim.Native.Nat.{ℕ, _+_}
+use Prim.Native.Nat.{ℕ, _+_, _≤_}
 use native.Mathlib.Nat.{zero-add}
 use native.Mathlib.Omega.{arith}
 use mathlib.Core.Path.{_≡_, refl, sym, ap, subst, _∙_}
 use mathlib.Core.Logic.{_↔_}
-use mathlib.Core.List.{List, [], _++_, append-nil}
+use mathlib.Core.List.{List, _++_}
 use lib.ListN.{length, take, drop}
 use lib.Seq.{take-append-seam}
 use Rattle.reply.specs.declared.Refusal.{Refusal}
@@ -17,6 +17,7 @@ use Rattle.reply.specs.Respond.{answer, refusal, writtenIf, Answered}
 use Rattle.reply.proofs.Laws.{demanded, written-answer, checked-refused}
 use Rattle.form.specs.Form.{Found, found, refused, foundIf}
 use Rattle.form.proofs.Found.{also-first, also-second}
+use Rattle.form.proofs.Writable.{told-placed}
 use Rattle.net.specs.declared.Net.{Net}
 use Rattle.net.specs.Net.{netCard}
 use Rattle.net.specs.Same.{writableNet}
@@ -27,7 +28,7 @@ use Rattle.run.specs.declared.Run.{Run}
 use Rattle.run.specs.declared.Order.{Order}
 use Rattle.run.specs.Run.{runCard, orderCard, firingsOf, firesOf}
 use Rattle.run.proofs.Same.{run-same, order-same}
-use Rattle.run.proofs.Ranges.{run-in-ranges}
+use Rattle.run.proofs.Ranges.{run-in-ranges, order-in-ranges}
 use Rattle.firing.specs.Semantics.{arcsOf, Restart, Timed, ruleOf, Initial, Allowed}
 use Rattle.firing.specs.Replay.{replay}
 use Rattle.firing.proofs.Accept as accept
@@ -42,7 +43,7 @@ use Rattle.timing.proofs.Rounded as rounded
 use Rattle.timing.proofs.Rounded.{fires-few, timetable-order, timetable-waits, timetable-clean, timetable-accepted, rounded-clean, rounded-order}
 use Rattle.timing.proofs.Rounded.{rounded-instant, rounded-end, rounded-accepted, same-markings, rounded-checked, scheduled-within, scheduled-checked}
 use Rattle.timing.proofs.RoundedClocks.{rounded-instants-near, rounded-end-near, rounded-clocks, rounded-end-clocks}
-use Rattle.cards.specs.Cards.{inputOf, runChecked, orderChecked, runCards}
+use Rattle.cards.specs.Cards.{cardOf, inputOf, runChecked, orderChecked, runCards}
 use Rattle.cards.proofs.Cards.{run-counts, order-counts, run-cards-passed, order-cards-passed, run-cards-prefix, order-cards-prefix}
 use Rattle.cards.proofs.Cards.{run-written-again, order-written-again, run-comes-back, order-comes-back, run-input-again, order-input-again}
 use Rattle.cards.proofs.Values.{run-cards-told, order-cards-told, run-input-back, order-input-back}
@@ -70,22 +71,22 @@ pub run-as-cards : RunAsCards
 run-as-cards what net r = rw (run-cards-told net r) (go (runChecked net r) refl)
   where
     go : (c : Checked) → runChecked net r ≡ c → onceChecked c (workOf what net r)
-        ≡ onceRead {A = Net × Run} (foundIf c (netCard .clean net, runCard (net .transitions) .clean r) (length (inputOf runCard net r)))
+        ≡ onceRead {A = Net × Run} (foundIf c (netCard .clean net, cardOf runCard net .clean r) (length (inputOf runCard net r)))
         (λ v. workOf what (v .0) (v .1))
     go Passed p =
         let (places, transitions, count) = run-counts net r p in
-        sym (work-same (net-same net places transitions) (run-same (net .transitions) r count) what)
+        sym (work-same (net-same net places transitions) (run-same (net .sheet) (net .transitions) r count) what)
     go (checked.Refused e) p = refl
 
 pub order-as-cards : OrderAsCards
 order-as-cards net o = rw (order-cards-told net o) (go (orderChecked net o) refl)
   where
     go : (c : Checked) → orderChecked net o ≡ c → onceChecked c (timetableOf net o)
-        ≡ onceRead {A = Net × Order} (foundIf c (netCard .clean net, orderCard (net .transitions) .clean o) (length (inputOf orderCard net o)))
+        ≡ onceRead {A = Net × Order} (foundIf c (netCard .clean net, cardOf orderCard net .clean o) (length (inputOf orderCard net o)))
         (λ v. timetableOf (v .0) (v .1))
     go Passed p =
         let (places, transitions, count) = order-counts net o p in
-        sym (timetable-same (net-same net places transitions) (order-same (net .transitions) o count))
+        sym (timetable-same (net-same net places transitions) (order-same (net .sheet) (net .transitions) o count))
     go (checked.Refused e) p = refl
 
 -- a check that refuses refuses the text and the reading alike
@@ -121,10 +122,8 @@ own (of-order net o) e = order-own net o e
 own (of-run-cards what s) e = omega (arith, cards-placed what s OutputTooShort e .0)
 own (of-order-cards s) e = omega (arith, timetable-placed s OutputTooShort e .0)
 own (write-net net) e =
-    let t = netCard .text (writableNet net) in
-    let p = checked-refused (netCard .check net 1) (netCard .text net) e in
-    let read = net-told .told net t [] 0 1 (sym (append-nil t)) ∙ ap (λ (c : Checked). foundIf c (netCard .clean net) (0 + length t)) p in
-    omega (arith, net-placed .named OutputTooShort t 0 1 read .from)
+    let h : 1 ≤ 0 = told-placed net-told net-placed net 1 (checked-refused (netCard .check net 1) (netCard .text net) e) in
+    omega arith
 own (write-run net r) e =
     run-own replaying net r (ap (λ (c : Checked). onceChecked c (workOf replaying net r)) (checked-refused (runChecked net r) _ e))
 own (write-order net o) e = order-own net o (ap (λ (c : Checked). onceChecked c (timetableOf net o)) (checked-refused (orderChecked net o) _ e))
@@ -227,10 +226,10 @@ pub inputs-written-read : InputsWrittenRead
 inputs-written-read = (
   λ net r p.
       let (places, transitions, count) = run-counts net r p in
-      (_, _, run-input-back net r p, net-same net places transitions, run-same (net .transitions) r count),
+      (_, _, run-input-back net r p, net-same net places transitions, run-same (net .sheet) (net .transitions) r count),
   λ net o p.
       let (places, transitions, count) = order-counts net o p in
-      (_, _, order-input-back net o p, net-same net places transitions, order-same (net .transitions) o count),
+      (_, _, order-input-back net o p, net-same net places transitions, order-same (net .sheet) (net .transitions) o count),
 )
 
 -- ======== demand 3
@@ -281,19 +280,20 @@ module _ (net : Net) (restarts : Restart) (o : Order) where
       let order = firesOf o in
       let (waits, on-time, text) = schedule-answer net o scheduled bytes e in
       let t = scheduled-timing net restarts order waits on-time in
-      let r = timetableRun (o .memory) order waits in
+      let r = timetableRun (o .sheet) (o .memory) order waits in
       let q = also-first (netCard .check net 1) _ p in
-      let passed = also-second (netCard .check net 1) (orderCard (net .transitions) .check o 1) p in
+      let passed = also-second (netCard .check net 1) (cardOf orderCard net .check o 1) p in
       let few = fires-few o in
       let soon = earliest-within net q in
-      let same = timetable-waits (o .memory) order waits (t .complete) few in (
+      let same = timetable-waits (o .sheet) (o .memory) order waits (t .complete) few in (
         r,
         whole-tick-run net restarts r refl (rw q (scheduled-checked net restarts o waits on-time soon passed))
-            (timetable-accepted net restarts (o .memory) order waits few t)
-            (timetable-clean (o .memory) order waits (t .complete) few (net .transitions)) bytes text,
+            (timetable-accepted net restarts (o .sheet) (o .memory) order waits few t)
+            (timetable-clean (o .sheet) (o .memory) order waits (t .complete) few (net .sheet) (net .transitions)) bytes text,
         record {
+          sheet = order-in-ranges (net .sheet) (net .transitions) o passed .own;
           memory = refl;
-          order = timetable-order (o .memory) order waits (t .complete) few;
+          order = timetable-order (o .sheet) (o .memory) order waits (t .complete) few;
           no-rest = refl;
           earliest = λ D d vs v i l. rw same (scheduled-earliest net restarts order waits on-time D d vs v i l);
           early = λ i. rw same (scheduled-within net restarts order waits on-time soon few i);
@@ -303,20 +303,22 @@ module _ (net : Net) (restarts : Restart) (o : Order) where
 module _ (net : Net) (restarts : Restart) (r : Run) where
   pub round-exactly : RoundExactly net restarts r
   round-exactly =
-      let once = once-answered (replay net restarts r .checked) (answer (runCard (net .transitions) .text (roundedRun r))) in
+      let once = once-answered (replay net restarts r .checked) (answer (cardOf runCard net .text (roundedRun r))) in
       (λ a. once .0 a .0, λ e. once .1 (e, (_, refl)))
 
   pub round-whole : RoundWhole net restarts r
   unfolding roundedRun
   round-whole p bytes e =
-      let (accepted, text) = once-answer (replay net restarts r .checked) (answer (runCard (net .transitions) .text (roundedRun r))) bytes .0 e in
+      let (accepted, text) = once-answer (replay net restarts r .checked) (answer (cardOf runCard net .text (roundedRun r))) bytes .0 e in
       let q = roundedRun r in
-      let passed = also-second (netCard .check net 1) (runCard (net .transitions) .check r 1) p in
-      let d = run-in-ranges (net .transitions) r .0 passed .some-parts in (
+      let passed = also-second (netCard .check net 1) (cardOf runCard net .check r 1) p in
+      let fits = run-in-ranges (net .sheet) (net .transitions) r .0 passed in
+      let d = fits .some-parts in (
         q,
-        whole-tick-run net restarts q refl (rw (also-first (netCard .check net 1) _ p) (rounded-checked (net .transitions) r passed))
-            (rounded-accepted r d net restarts accepted) (rounded-clean r (net .transitions)) bytes (cc),
+        whole-tick-run net restarts q refl (rw (also-first (netCard .check net 1) _ p) (rounded-checked (net .sheet) (net .transitions) r passed))
+            (rounded-accepted r d net restarts accepted) (rounded-clean r (net .sheet) (net .transitions)) bytes (cc),
         record {
+          sheet = fits .own;
           memory = refl;
           order = rounded-order r;
           instant = rounded-instant r d;

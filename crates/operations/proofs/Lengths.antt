@@ -28,7 +28,7 @@ use Rattle.firing.specs.Replay.{replay}
 use Rattle.firing.specs.Claims.{view}
 use Rattle.firing.proofs.Clocks.{few-places, few-transitions}
 use Rattle.causal.specs.Print.{processText}
-use Rattle.cards.specs.Cards.{runChecked, runCards, orderCards}
+use Rattle.cards.specs.Cards.{cardOf, runChecked, runCards, orderCards}
 use Rattle.cards.proofs.Cards.{run-short, run-written-again, run-cards-passed, order-cards-passed}
 use Rattle.operations.specs.Operation.{onceRead}
 use Rattle.operations.specs.Replay.{clockText, clocksText, endText, ended, replayCards}
@@ -91,7 +91,7 @@ replay-short s text =
 -- ---- the card of a run
 card-short : (net : Net) (restarts : Restart) (bytes : List ℕ) (r : Run) → WholeTickRun net restarts bytes r → length bytes ≤ 2048
 card-short net restarts bytes r w =
-    let text = written-answer (runChecked net r) (runCard (net .transitions) .text r) (run-written-again net bytes (w .is-card)) .1 in
+    let text = written-answer (runChecked net r) (cardOf runCard net .text r) (run-written-again net bytes (w .is-card)) .1 in
     rw (← text) (omega (arith, run-short net r (w .checked)))
 
 pub round-short : (s bytes : List ℕ) → roundCards s ≡ answer bytes → length bytes ≤ 2048

@@ -1,11 +1,14 @@
--- Every refusal of an operation has a small place: what was read has at most 146 lines and 64 firings.
-use Prim.Native.Nat.{ℕ, _≤_, _<_}
+-- Every refusal of an operation has a small place: what was read has at most 147 lines and 64 firings.
+use Prim.Native.Nat.{ℕ, _+_, _≤_, _<_}
 use native.Mathlib.Omega.{arith}
-use mathlib.Core.Path.{_≡_, refl}
+use mathlib.Core.Path.{_≡_, refl, ap}
+use mathlib.Core.Logic.{inl, inr}
 use mathlib.Core.List.{List}
+use lib.ListN.{length}
 use Rattle.reply.specs.declared.Refusal.{Refusal}
 use Rattle.reply.specs.declared.Checked.the-variants.{Passed}
-use Rattle.reply.specs.Refusal.{positionOf}
+use Rattle.reply.specs.declared.Checked.the-variants as checked
+use Rattle.reply.specs.Refusal.{numberOf, positionOf}
 use Rattle.reply.specs.Respond.{Outcome, refusal}
 use Rattle.form.specs.Form.{Found, found, refused}
 use Rattle.form.specs.Inverse.{Among}
@@ -13,7 +16,10 @@ use Rattle.net.specs.declared.Net.{Net}
 use Rattle.run.specs.declared.Run.{Run}
 use Rattle.run.specs.declared.Order.{Order}
 use Rattle.run.specs.Run.{firesOf}
-use Rattle.firing.specs.Semantics.{arcsOf, Restart, ruleOf}
+use Rattle.firing.specs.Semantics.{arcsOf, Restart, Timed, ruleOf}
+use Rattle.firing.specs.Replay.{replay}
+use Rattle.firing.specs.Claims.{Because}
+use Rattle.firing.proofs.Accept.{refused-first}
 use Rattle.firing.proofs.Places as firing
 use Rattle.timing.specs.Schedule.{schedule}
 use Rattle.timing.proofs.Places.{schedule-placed}
@@ -36,6 +42,17 @@ once-refused (refused q) o first then e = first (cc)
 abbrev pub Place : Refusal → Type 0
 Place r = (0 < positionOf r) × (positionOf r ≤ 147)
 
+-- a replay refuses as 5, 6 or 7
+because-number : (net : Net) (D : ℕ) (r : Refusal) (n : ℕ) (S : Timed) (t : ℕ) → Because net D r n S t → numberOf r ≤ 7
+because-number net D r n S t (inl b) = omega (arith, ap numberOf (b .0))
+because-number net D r n S t (inr (inl b)) = omega (arith, ap numberOf (b .0))
+because-number net D r n S t (inr (inr b)) = omega (arith, ap numberOf (b .0))
+
+pub replay-number : (net : Net) (restarts : Restart) (run : Run) (r : Refusal) → replay net restarts run .checked ≡ checked.Refused r → numberOf r ≤ 7
+replay-number net restarts run r e =
+    let f = refused-first net restarts run r e in
+    because-number net (run .denominator) r (0 + length (f .front) + 1) (f .there) (f .refused .fire) (f .because)
+
 pub work-placed : (what : OnRun) (net : Net) (run : Run) (r : Refusal) → runChecked net run ≡ Passed → workOf what net run ≡ refusal r → Place r
 work-placed what net run r p e =
     let h = firing.replay-place net (ruleOf (arcsOf net) (run .memory)) run r (work-refused net run what r .0 e) in
@@ -47,7 +64,7 @@ schedule-refused net restarts o r e =
     (h .0, omega (arith, fires-few o))
 
 -- a refusal of cards names one of their lines
-pub line-place : {r : Refusal} → Among 1 146 r → Place r
+pub line-place : {r : Refusal} → Among 1 147 r → Place r
 line-place h = (h .from, omega (arith, h .below))
 
 pub cards-placed : (what : OnRun) (s : List ℕ) (r : Refusal) → cardsOf what s ≡ refusal r → Place r

@@ -7,7 +7,7 @@ use Rattle.reply.specs.declared.Checked.{Checked}
 use Rattle.reply.specs.declared.Checked.the-variants.{Passed, Refused}
 use Rattle.reply.specs.Respond.{answer}
 use Rattle.text.specs.Key.{bytes}
-use Rattle.form.specs.Form.{also}
+use Rattle.form.specs.Form.{also, Form}
 use Rattle.form.specs.Line.{itemsText}
 use Rattle.net.specs.declared.Net.{Net}
 use Rattle.net.specs.Net.{netCard}
@@ -30,7 +30,8 @@ use Rattle.timing.specs.Rounding.{roundedRun, timetableRun}
 use Rattle.timing.proofs.Same.{same-schedule, same-rounded}
 use Rattle.causal.specs.Print.{processText}
 use Rattle.causal.proofs.Same.{same-process}
-use Rattle.cards.specs.Cards.{runChecked, orderChecked}
+use Rattle.cards.specs.Cards.{cardOf, runChecked, orderChecked}
+use Rattle.cards.proofs.Cards.{same-card}
 use Rattle.operations.specs.Operation.{onceChecked}
 use Rattle.operations.specs.Replay.{clocksText, endText, ended}
 use Rattle.operations.specs.Timetable.{scheduleText, timetableOf}
@@ -68,9 +69,9 @@ module _ {a b : Net} (s : SameNet a b) where
 
     pub run-checks-same : runChecked a r ≡ runChecked b q
     run-checks-same =
-        ap (λ (c : Checked). also c (runCard (a .transitions) .check r 1)) (same-net-check s 1)
-        ∙ ap (λ (n : ℕ). also (netCard .check b 1) (runCard n .check r 1)) (s .transitions)
-        ∙ ap (also (netCard .check b 1)) (same-run-check (b .transitions) t 1)
+        ap (λ (c : Checked). also c (cardOf runCard a .check r 1)) (same-net-check s 1)
+        ∙ ap (λ (f : Form Run). also (netCard .check b 1) (f .check r 1)) (same-card runCard s)
+        ∙ ap (also (netCard .check b 1)) (same-run-check (b .sheet) (b .transitions) t 1)
 
     processes-same : (c : Checked) → one .checked ≡ c
         → onceChecked c (answer (processText a (orderOf (firingsOf r)))) ≡ onceChecked c (answer (processText b (orderOf (firingsOf q))))
@@ -81,9 +82,9 @@ module _ {a b : Net} (s : SameNet a b) where
     pub work-same : (what : OnRun) → workOf what a r ≡ workOf what b q
     work-same replaying = ended-same (one .checked) (one .state) ∙ ap (λ (p : Played). ended b (p .checked) (p .state)) replays-same
     work-same rounding =
-        ap (λ (p : Played). onceChecked (p .checked) (answer (runCard (a .transitions) .text (roundedRun r)))) replays-same
-        ∙ ap (λ (n : ℕ). onceChecked (other .checked) (answer (runCard n .text (roundedRun r)))) (s .transitions)
-        ∙ ap (λ (x : Run). onceChecked (other .checked) (answer (runCard (b .transitions) .text x))) (same-rounded t)
+        ap (λ (p : Played). onceChecked (p .checked) (answer (cardOf runCard a .text (roundedRun r)))) replays-same
+        ∙ ap (λ (f : Form Run). onceChecked (other .checked) (answer (f .text (roundedRun r)))) (same-card runCard s)
+        ∙ ap (λ (x : Run). onceChecked (other .checked) (answer (cardOf runCard b .text x))) (same-rounded t)
     work-same processing =
         processes-same (one .checked) refl
         ∙ ap (λ (p : Played). onceChecked (p .checked) (answer (processText b (orderOf (firingsOf q))))) replays-same
@@ -91,9 +92,9 @@ module _ {a b : Net} (s : SameNet a b) where
   module _ {o q : Order} (t : SameOrder o q) where
     pub order-checks-same : orderChecked a o ≡ orderChecked b q
     order-checks-same =
-        ap (λ (c : Checked). also c (orderCard (a .transitions) .check o 1)) (same-net-check s 1)
-        ∙ ap (λ (n : ℕ). also (netCard .check b 1) (orderCard n .check o 1)) (s .transitions)
-        ∙ ap (also (netCard .check b 1)) (same-order-check (b .transitions) t 1)
+        ap (λ (c : Checked). also c (cardOf orderCard a .check o 1)) (same-net-check s 1)
+        ∙ ap (λ (f : Form Order). also (netCard .check b 1) (f .check o 1)) (same-card orderCard s)
+        ∙ ap (also (netCard .check b 1)) (same-order-check (b .sheet) (b .transitions) t 1)
 
     pub timetable-same : timetableOf a o ≡ timetableOf b q
     timetable-same =
@@ -103,7 +104,8 @@ module _ {a b : Net} (s : SameNet a b) where
       where
         text-same : (x : Scheduled) → scheduleText a o x ≡ scheduleText b q x
         text-same (timed ws) =
-            ap (λ (n : ℕ). answer (runCard n .text (timetableRun (o .memory) (firesOf o) ws))) (s .transitions)
-            ∙ ap (λ (m : Memory). answer (runCard (b .transitions) .text (timetableRun m (firesOf o) ws))) (t .memory)
-            ∙ ap (λ (fs : List ℕ). answer (runCard (b .transitions) .text (timetableRun (q .memory) fs ws))) (same-fires t)
+            let run : timetableRun (o .sheet) (o .memory) (firesOf o) ws ≡ timetableRun (q .sheet) (q .memory) (firesOf q) ws =
+            rw (same-fires t, t .sheet, t .memory) refl in
+            ap (λ (x : Run). answer (cardOf runCard a .text x)) run
+            ∙ ap (λ (f : Form Run). answer (f .text (timetableRun (q .sheet) (q .memory) (firesOf q) ws))) (same-card runCard s)
         text-same (unschedulable r) = refl

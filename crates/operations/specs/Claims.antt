@@ -43,8 +43,9 @@ pub record WholeTickRun (net : Net) (restarts : Restart) (bytes : List ℕ) (r :
   pub accepted : replay net restarts r .checked ≡ Passed
   pub allowed : (end : Timed) × Allowed net restarts 1 (firingsOf r) (r .rest) end
 
--- r is the earliest timetable of an order: no timing at any denominator has any firing earlier
+-- r is the earliest timetable of an order, on the net's sheet: no timing at any denominator has any firing earlier
 pub record EarliestRun (net : Net) (restarts : Restart) (o : Order) (r : Run) : Type 0 where
+  pub sheet : r .sheet ≡ net .sheet
   pub memory : r .memory ≡ o .memory
   pub order : orderOf (firingsOf r) ≡ firesOf o
   pub no-rest : r .rest ≡ 0
@@ -52,8 +53,9 @@ pub record EarliestRun (net : Net) (restarts : Restart) (o : Order) (r : Run) : 
       → D * instantsOf r i ≤ instants waits i
   pub early : (i : ℕ) → instantsOf r i ≤ 64000
 
--- q is the run r with every instant, the end included, rounded down to whole ticks
+-- q is the run r, on the net's sheet, with every instant, the end included, rounded down to whole ticks
 pub record RoundedDown (net : Net) (restarts : Restart) (r q : Run) : Type 0 where
+  pub sheet : q .sheet ≡ net .sheet
   pub memory : q .memory ≡ r .memory
   pub order : orderOf (firingsOf q) ≡ orderOf (firingsOf r)
   pub instant : (i : ℕ) → instantsOf q i ≡ instantsOf r i / r .denominator

@@ -69,11 +69,11 @@ SlotsNoPart =
     ((what : OnRun) (a b : Net) (r q : Run) → SameNet a b → SameRun r q → valuesOf what a r ≡ valuesOf what b q)
     × ((a b : Net) (o q : Order) → SameNet a b → SameOrder o q → timetableValues a o ≡ timetableValues b q)
 
--- the first 14,003 bytes of an input decide; 13,006 for a timetable
+-- the first 14,035 bytes of an input decide; 13,038 for a timetable
 abbrev pub PrefixDecides : Type 0
 PrefixDecides =
-    ((what : OnRun) (s : List ℕ) (k : ℕ) → 14003 ≤ k → cardsOf what (take k s) ≡ cardsOf what s)
-    × ((s : List ℕ) (k : ℕ) → 13006 ≤ k → timetableCards (take k s) ≡ timetableCards s)
+    ((what : OnRun) (s : List ℕ) (k : ℕ) → 14035 ≤ k → cardsOf what (take k s) ≡ cardsOf what s)
+    × ((s : List ℕ) (k : ℕ) → 13038 ≤ k → timetableCards (take k s) ≡ timetableCards s)
 
 -- ======== demand 2
 -- "a timed run within the card limits is accepted if, and only if, the published weak semantics allows every firing in it"

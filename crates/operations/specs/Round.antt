@@ -8,12 +8,12 @@ use Rattle.run.specs.Run.{runCard}
 use Rattle.firing.specs.Semantics.{arcsOf, Restart, ruleOf}
 use Rattle.firing.specs.Replay.{replay}
 use Rattle.timing.specs.Rounding.{roundedRun}
-use Rattle.cards.specs.Cards.{runChecked, runCards}
+use Rattle.cards.specs.Cards.{cardOf, runChecked, runCards}
 use Rattle.operations.specs.Operation.{onceChecked, onceRead}
 
 -- what the rounding of a run comes to under a restart rule: the card of the rounded run, or the first refusal of its replay
 abbrev pub roundBy : Net → Restart → Run → Outcome
-roundBy net restarts r = onceChecked (replay net restarts r .checked) (answer (runCard (net .transitions) .text (roundedRun r)))
+roundBy net restarts r = onceChecked (replay net restarts r .checked) (answer (cardOf runCard net .text (roundedRun r)))
 
 abbrev pub roundOf : Net → Run → Outcome
 roundOf net r = roundBy net (ruleOf (arcsOf net) (r .memory)) r

@@ -8,12 +8,12 @@ use Rattle.run.specs.Run.{runCard, firesOf}
 use Rattle.firing.specs.Semantics.{arcsOf, Restart, ruleOf}
 use Rattle.timing.specs.Schedule.{Scheduled, timed, unschedulable, schedule}
 use Rattle.timing.specs.Rounding.{timetableRun}
-use Rattle.cards.specs.Cards.{orderChecked, orderCards}
+use Rattle.cards.specs.Cards.{cardOf, orderChecked, orderCards}
 use Rattle.operations.specs.Operation.{onceChecked, onceRead}
 
 -- the card of a timetable, or why there is none
 abbrev pub scheduleText : Net → Order → Scheduled → Outcome
-scheduleText net o (timed waits) = answer (runCard (net .transitions) .text (timetableRun (o .memory) (firesOf o) waits))
+scheduleText net o (timed waits) = answer (cardOf runCard net .text (timetableRun (o .sheet) (o .memory) (firesOf o) waits))
 scheduleText net o (unschedulable r) = refusal r
 
 -- what the timetable of an order comes to under a restart rule

@@ -18,7 +18,7 @@ use Rattle.net.specs.Net.{netCard}
 use Rattle.run.specs.declared.Run.{Run}
 use Rattle.run.specs.Run.{runCard}
 use Rattle.run.proofs.Firings.{length-firings}
-use Rattle.cards.specs.Cards.{runChecked, twoRunsChecked}
+use Rattle.cards.specs.Cards.{cardOf, runChecked, twoRunsChecked}
 use Rattle.cards.proofs.Cards.{run-counts}
 use Rattle.operations.proofs.Answers.{no-answer}
 use Rattle.ranking.specs.declared.Ranking.{Ranking}
@@ -33,14 +33,14 @@ use Rattle.ranking.proofs.Ranks.{one-length}
 module _ (net : Net) (x y : Run) where
   pub each-passed : twoRunsChecked net x y ≡ checked.Passed → (runChecked net x ≡ checked.Passed) × (runChecked net y ≡ checked.Passed)
   each-passed p =
-      let card = runCard (net .transitions) in
+      let card = cardOf runCard net in
       let runs = also-second (netCard .check net 1) (also (card .check x 1) (card .check y 1)) p in
       let n = also-first (netCard .check net 1) (also (card .check x 1) (card .check y 1)) p in
       (rw n (also-first (card .check x 1) (card .check y 1) runs), rw n (also-second (card .check x 1) (card .check y 1) runs))
 
   pub both-passed : runChecked net x ≡ checked.Passed → runChecked net y ≡ checked.Passed → twoRunsChecked net x y ≡ checked.Passed
   both-passed p q =
-      let card = runCard (net .transitions) in
+      let card = cardOf runCard net in
       rw (
         also-first (netCard .check net 1) (card .check x 1) p,
         also-second (netCard .check net 1) (card .check x 1) p,
@@ -58,6 +58,12 @@ ranked-passed (checked.Refused q) r e = let z : _≡_ {A = ℕ} 0 1 = cc in absu
 ranked-refused : (c : Checked) (rank lead : ℤ) {e : Refusal} → rankedIf c (Ranked rank lead) ≡ Refused e → c ≡ checked.Refused e
 ranked-refused checked.Passed rank lead h = let z : _≡_ {A = ℕ} 0 1 = cc in absurd (omega arith)
 ranked-refused (checked.Refused q) rank lead h = cc
+
+-- a ranking that counts once a check is passed: what refuses is the check, or the ranking behind it
+pub ranked-told : {P : Type 0} {e : Refusal} (c : Checked) (r : Ranking) → (c ≡ checked.Refused e → P) → (c ≡ checked.Passed → r ≡ Refused e → P)
+    → rankedIf c r ≡ Refused e → P
+ranked-told checked.Passed r first then h = then refl h
+ranked-told (checked.Refused q) r first then h = first cc
 
 -- and printed
 printed-passed : (c : Checked) (r : Ranking) {text : List ℕ} → printed (rankedIf c r) ≡ answer text → c ≡ checked.Passed
@@ -122,14 +128,14 @@ module _ (net : Net) (x y : Run) where
 
   -- what the instants that decide are found from
   pub ready : twoRunsChecked net x y ≡ checked.Passed → rankable net x y ≡ checked.Passed
-      → ((n : ℕ) × (runCard n .check x 1 ≡ checked.Passed)) × ((n : ℕ) × (runCard n .check y 1 ≡ checked.Passed)) × (x .count ≡ y .count)
+      → ((s : ℕ) × (n : ℕ) × (runCard s n .check x 1 ≡ checked.Passed)) × ((s : ℕ) × (n : ℕ) × (runCard s n .check y 1 ≡ checked.Passed)) × (x .count ≡ y .count)
   ready p q =
       let (a, b) = each-passed net x y p in
       let (few, brief) = few-firings net x y p in
-      let card = runCard (net .transitions) in
+      let card = cardOf runCard net in
       let long = one-length x y (rankable-exactly .0 q .one-order) in (
-        (net .transitions, also-second (netCard .check net 1) (card .check x 1) a),
-        (net .transitions, also-second (netCard .check net 1) (card .check y 1) b),
+        (net .sheet, net .transitions, also-second (netCard .check net 1) (card .check x 1) a),
+        (net .sheet, net .transitions, also-second (netCard .check net 1) (card .check y 1) b),
         omega (arith, long, length-firings x, length-firings y),
       )
 

@@ -23,7 +23,7 @@ use Rattle.firing.specs.Replay.{startState, play}
 use Rattle.firing.proofs.Accept.{replay-plays}
 use Rattle.run.proofs.Firings.{length-firings, fire-at}
 use Rattle.timing.proofs.Meet.{length-order}
-use Rattle.cards.specs.Cards.{runChecked, twoRunsChecked}
+use Rattle.cards.specs.Cards.{cardOf, runChecked, twoRunsChecked}
 use Rattle.ranking.specs.Ranking.{replayed}
 use Rattle.ranking.proofs.Ranks.{order-length}
 
@@ -78,8 +78,8 @@ module _ {x y : Run} {i : ℕ} (a : Alike x y i) where
 
 -- ---- checks one after the other
 -- two runs of a net are checked as the first is, then the second
-pub two-runs : (net : Net) (x y : Run) → twoRunsChecked net x y ≡ also (runChecked net x) (runCard (net .transitions) .check y 1)
-two-runs net x y = also-also (netCard .check net 1) (runCard (net .transitions) .check x 1) (runCard (net .transitions) .check y 1)
+pub two-runs : (net : Net) (x y : Run) → twoRunsChecked net x y ≡ also (runChecked net x) (cardOf runCard net .check y 1)
+two-runs net x y = also-also (netCard .check net 1) (cardOf runCard net .check x 1) (cardOf runCard net .check y 1)
 
 -- a replay says what its firings say
 pub replay-says : (net : Net) (r : Run) {p : Played}

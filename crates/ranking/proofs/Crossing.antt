@@ -36,7 +36,7 @@ module _ (a b : ℕ) where
 
 -- ---- one run that passes its check
 abbrev Card : Run → Type 0
-Card r = (n : ℕ) × (runCard n .check r 1 ≡ Passed)
+Card r = (s : ℕ) × (n : ℕ) × (runCard s n .check r 1 ≡ Passed)
 
 abbrev wait : Run → ℕ → ℕ
 wait r i = getD (r .firings) i noFiring .wait
@@ -54,8 +54,8 @@ counted-start : (r : Run) → Counted r 0 0
 counted-start r = record { instant = sym (instants-zero (waitsOf (firingsOf r))); soon = omega arith }
 
 module _ (r : Run) (card : Card r) where
-  fits : RunFits (card .0) r
-  fits = run-in-ranges (card .0) r .0 (card .1)
+  fits : RunFits (card .0) (card .1) r
+  fits = run-in-ranges (card .0) (card .1) r .0 (card .2)
 
   count-length : length (firingsOf r) ≡ r .count
   count-length = omega (arith, length-firings r, fits .few)
@@ -70,7 +70,7 @@ module _ (r : Run) (card : Card r) where
       counts = omega (arith, fits .few)
 
       wait-short : wait r i ≤ 10000000
-      wait-short = rw (firing-at r i counts) at (each-at (FiringFits (card .0)) noFiring (firingsOf r) (fits .each) i (omega (arith, count-length)) .0)
+      wait-short = rw (firing-at r i counts) at (each-at (FiringFits (card .1)) noFiring (firingsOf r) (fits .each) i (omega (arith, count-length)) .0)
 
       counted-next : Counted r (s + wait r i) (suc i)
       counted-next =

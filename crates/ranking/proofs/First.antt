@@ -20,7 +20,7 @@ use Rattle.firing.specs.Semantics.{Restart}
 use Rattle.firing.specs.Replay.{replay}
 use Rattle.timing.specs.Windows.{Timing}
 use Rattle.timing.specs.Rounding.{lastInstant, endInstant}
-use Rattle.cards.specs.Cards.{readRun, runChecked, orderChecked}
+use Rattle.cards.specs.Cards.{cardOf, readRun, runChecked, orderChecked}
 use Rattle.operations.specs.Claims.{instantsOf, EarliestRun}
 use Rattle.operations.specs.Timetable.{timetableBy}
 use Rattle.operations.proofs.Demands.{timetable-earliest}
@@ -80,5 +80,5 @@ module _ (net : Net) (restarts : Restart) (o : Order) (bytes : List ℕ) (t : Ru
   pub timetable-never-after : (r : Run) → runChecked net r ≡ Passed → replay net restarts r .checked ≡ Passed → orderOf (firingsOf r) ≡ firesOf o
       → Before r t → ⊥
   timetable-never-after r checked accepted one =
-      let passed = also-second (netCard .check net 1) (runCard (net .transitions) .check r 1) checked in
-      timetable-first net restarts o r t (read-earliest .0) (read-earliest .1) (run-in-ranges (net .transitions) r .0 passed .some-parts) accepted one
+      let passed = also-second (netCard .check net 1) (cardOf runCard net .check r 1) checked in
+      timetable-first net restarts o r t (read-earliest .0) (read-earliest .1) (run-in-ranges (net .sheet) (net .transitions) r .0 passed .some-parts) accepted one

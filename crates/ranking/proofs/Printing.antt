@@ -12,6 +12,7 @@ use Rattle.reply.specs.Respond.{answer}
 use Rattle.text.specs.Key.{bytes}
 use Rattle.text.specs.Decimal.{decimal}
 use Rattle.text.proofs.DecimalLaws.{digits-few}
+use Rattle.operations.proofs.Answers.{answer-bytes}
 use Rattle.ranking.specs.declared.Ranking.the-variants.{Ranked}
 use Rattle.ranking.specs.Lead.{signOf}
 use Rattle.ranking.specs.Ranking.{signed, printed}
@@ -49,12 +50,9 @@ signed-short x y l m = go (decLt x y)
 abbrev pub leadText : ℤ → List ℕ
 leadText z = (bytes "rank=" ++ (signed (signOf z) ++ bytes "\n")) ++ (bytes "lead=" ++ (signed z ++ bytes "\n"))
 
-answer-text : {a b : List ℕ} → answer a ≡ answer b → a ≡ b
-answer-text e = cc
-
 module _ (x y : ℕ) (l : x < 2 ^ 40) (m : y < 2 ^ 40) where
   pub lead-short : length (leadText (pos x -ℤ pos y)) ≤ 28
   lead-short = simp length-append (omega (arith, sign-short (pos x -ℤ pos y), signed-short x y l m))
 
   pub ranked-short : (text : List ℕ) → printed (Ranked (signOf (pos x -ℤ pos y)) (pos x -ℤ pos y)) ≡ answer text → length text ≤ 32
-  ranked-short text e = omega (arith, lead-short, ap length (answer-text e))
+  ranked-short text e = omega (arith, lead-short, ap length (answer-bytes e))

@@ -1,21 +1,23 @@
 -- The request, proved as specs/Request.antt states it, under the same names.
-use Prim.Native.Nat.{ℕ, _<_}
+use Prim.Native.Nat.{ℕ, _≤_, _<_}
 use native.Mathlib.Omega.{arith}
 use mathlib.Core.Path.{_≡_, refl, sym, ap, subst, subst⁻¹, _∙_}
-use mathlib.Core.Logic.{_↔_, ⊎-elim}
+use mathlib.Core.Logic.{_↔_, _⊎_, inl, inr, ⊎-elim}
 use mathlib.Core.List.{List}
 use lib.ListN.{length}
 use lib.IntN.{ℤ, pos, negsuc}
 use Rattle.reply.specs.declared.Refusal.{Refusal}
+use Rattle.reply.specs.declared.Refusal.the-variants.{AnotherSheet}
 use Rattle.reply.specs.declared.Checked.{Checked}
 use Rattle.reply.specs.declared.Checked.the-variants as checked
-use Rattle.reply.specs.Refusal.{positionOf}
+use Rattle.reply.specs.Refusal.{numberOf, positionOf}
 use Rattle.reply.specs.Respond.{answer, Answered}
-use Rattle.form.specs.Form.{Found, found, refused, foundIf}
-use Rattle.form.proofs.Found.{also-second}
+use Rattle.form.specs.Form.{Found, found, refused, foundIf, also}
+use Rattle.form.proofs.Found.{also-first, also-second, also-refused}
 use Rattle.net.specs.declared.Net.{Net}
 use Rattle.net.specs.Net.{netCard}
 use Rattle.net.specs.Same.{SameNet}
+use Rattle.net.proofs.Card.{net-transitions}
 use Rattle.net.proofs.Same.{net-same}
 use Rattle.run.specs.declared.Memory.{Memory}
 use Rattle.run.specs.declared.Run.{Run}
@@ -27,28 +29,32 @@ use Rattle.run.proofs.Same.{run-same}
 use Rattle.firing.specs.Semantics.{arcsOf, Restart, ruleOf}
 use Rattle.firing.specs.Replay.{replay}
 use Rattle.firing.proofs.Places.{replay-place}
-use Rattle.cards.specs.Cards.{readRun, twoRuns, runChecked, orderChecked, twoRunsChecked, twoRunsInput}
+use Rattle.cards.specs.Cards.{cardOf, readRun, twoRuns, runChecked, orderChecked, twoRunsChecked, twoRunsInput}
 use Rattle.cards.proofs.Cards.{run-counts}
+use Rattle.cards.proofs.Sheets.{run-own-sheet, run-wrong-sheet, first-at-once, second-at-once, run-judged, net-judged, two-runs-ahead}
 use Rattle.cards.proofs.TwoRuns.{two-runs-prefix, two-runs-was, two-runs-told, two-runs-back}
 use Rattle.operations.specs.Operation.{onceRead}
 use Rattle.operations.specs.Timetable.{timetableOf, timetableValues}
 use Rattle.operations.specs.Demands.{Allows}
+use Rattle.operations.specs.Requests.{Elsewhere}
 use Rattle.operations.proofs.Answers.{no-answer, once-answer}
+use Rattle.operations.proofs.Places.{once-refused, replay-number}
 use Rattle.operations.proofs.Demands.{allowed-exactly}
 use Rattle.ranking.specs.Lead.{leadOf, signOf}
 use Rattle.ranking.specs.Claims.{OfOneOrder, Before, Level}
-use Rattle.ranking.specs.Ranking.{replayed, rankOf, rankedIf, printed}
+use Rattle.ranking.specs.Ranking.{replayed, rankable, rankOf, rankedIf, printed}
 use Rattle.ranking.specs.Request.{RankedExactly, RankExactly, LeadDeciding, Total, Antisymmetric, Carried, Transitive, TimetableFirst, RefusedInOrder}
-use Rattle.ranking.specs.Request.{RankOfCards, RankAsCards, RankSlots, RankPrefix, TwoRunsInverse}
+use Rattle.ranking.specs.Request.{RankOfCards, RankAsCards, RankedSheet, RankWrongSheet, RankWrongSheetExactly, RankSlots, RankPrefix, TwoRunsInverse}
 use Rattle.ranking.proofs.Compared.{each-passed, both-passed, first-refuses, second-refuses, Rankable, rankable-exactly, printed-rankable}
-use Rattle.ranking.proofs.Compared.{compared, ranks, value-refused, other-order, refused-cases}
+use Rattle.ranking.proofs.Compared.{compared, ranks, value-refused, other-order, refused-cases, printed-refused, ranked-told}
+use Rattle.ranking.proofs.Comparing.{two-runs}
 use Rattle.ranking.proofs.Ranks as order
 use Rattle.ranking.proofs.First.{read-earliest}
 use Rattle.ranking.proofs.First as first
 use Rattle.ranking.proofs.Slots.{same-rank-of, same-rank-values}
 
 some-parts : (net : Net) (r : Run) → runChecked net r ≡ checked.Passed → 0 < r .denominator
-some-parts net r p = run-in-ranges (net .transitions) r .0 (also-second (netCard .check net 1) (runCard (net .transitions) .check r 1) p) .some-parts
+some-parts net r p = run-in-ranges (net .sheet) (net .transitions) r .0 (also-second (netCard .check net 1) (cardOf runCard net .check r 1) p) .some-parts
 
 -- ---- when runs are ranked
 module _ (net : Net) (x y : Run) where
@@ -210,21 +216,78 @@ module _ (net : Net) (x y : Run) (p : twoRunsChecked net x y ≡ checked.Passed)
   clean-net : SameNet (netCard .clean net) net
   clean-net = let (places, transitions, count) = run-counts net x (each-passed net x y p .0) in net-same net places transitions
 
-  clean-x : SameRun (runCard (net .transitions) .clean x) x
-  clean-x = run-same (net .transitions) x (run-counts net x (each-passed net x y p .0) .2)
+  clean-x : SameRun (cardOf runCard net .clean x) x
+  clean-x = run-same (net .sheet) (net .transitions) x (run-counts net x (each-passed net x y p .0) .2)
 
-  clean-y : SameRun (runCard (net .transitions) .clean y) y
-  clean-y = run-same (net .transitions) y (run-counts net y (each-passed net x y p .1) .2)
+  clean-y : SameRun (cardOf runCard net .clean y) y
+  clean-y = run-same (net .sheet) (net .transitions) y (run-counts net y (each-passed net x y p .1) .2)
 
 pub rank-as-cards : RankAsCards
 rank-as-cards net x y = rw (two-runs-told net x y) (go (twoRunsChecked net x y) refl)
   where
     go : (c : Checked) → twoRunsChecked net x y ≡ c → printed (rankedIf c (rankOf net x y))
         ≡ onceRead {A = Net × (Run × Run)}
-        (foundIf c (netCard .clean net, (runCard (net .transitions) .clean x, runCard (net .transitions) .clean y)) (length (twoRunsInput net x y)))
+        (foundIf c (netCard .clean net, (cardOf runCard net .clean x, cardOf runCard net .clean y)) (length (twoRunsInput net x y)))
         (λ v. printed (rankOf (v .0) (v .1 .0) (v .1 .1)))
     go checked.Passed p = ap printed (sym (same-rank-of (clean-net net x y p) (clean-x net x y p) (clean-y net x y p)))
     go (checked.Refused e) p = refl
+
+pub ranked-sheet : RankedSheet
+ranked-sheet net x y rank lead e =
+    let (p, q) = each-passed net x y (compared net x y e .passed) in
+    (run-own-sheet net x p, run-own-sheet net y q)
+
+pub rank-wrong-sheet : RankWrongSheet
+rank-wrong-sheet net p = (
+  λ x y small other. rw (two-runs net x y, run-wrong-sheet net p x small other) refl,
+  λ x y first small other.
+      let second : cardOf runCard net .check y 1 ≡ checked.Refused (AnotherSheet 1) = rw p at (run-wrong-sheet net p y small other) in
+      rw (two-runs net x y, first, second) refl,
+  λ n small other rest. (
+    rw (first-at-once net n small other rest p) refl,
+    λ x q. rw (second-at-once net n small other rest p x q) refl,
+  ),
+)
+
+-- a replay is 5, 6 or 7, and behind both 10 comes
+rank-elsewhere : (net : Net) (x y : Run) → rankable net x y ≡ checked.Refused (AnotherSheet 1) → ⊥
+rank-elsewhere net x y =
+    let number : (r : Run) → replayed net r ≡ checked.Refused (AnotherSheet 1) → ⊥ =
+    λ r e. let h : 11 ≤ 7 = replay-number net (ruleOf (arcsOf net) (r .memory)) r (AnotherSheet 1) e in omega arith in
+    refused-cases net x y (number x) (λ p. number y) (λ p q other e. omega (arith, ap numberOf e))
+
+-- where values are told so: X is elsewhere, or X passes and Y is
+checks-elsewhere : (net : Net) (x y : Run) → twoRunsChecked net x y ≡ checked.Refused (AnotherSheet 1)
+    → Elsewhere net (x .sheet) ⊎ ((runChecked net x ≡ checked.Passed) × Elsewhere net (y .sheet))
+checks-elsewhere net x y =
+    let card = cardOf runCard net in
+    also-refused (netCard .check net 1) (also (card .check x 1) (card .check y 1)) (λ p. absurd (net-judged net p)) (λ p.
+    let few = net-transitions net p .1 in
+    also-refused (card .check x 1) (card .check y 1) (λ e. let h = run-judged net few x e in inl (p, h .0, h .1)) (λ q e.
+    let h = run-judged net few y e in
+    inr (rw p q, (p, h .0, h .1))))
+
+pub rank-wrong-sheet-exactly : RankWrongSheetExactly
+rank-wrong-sheet-exactly = (
+  λ net x y. (
+    λ e.
+        ranked-told (twoRunsChecked net x y) (rankOf net x y) (checks-elsewhere net x y) (λ p q. absurd (rank-elsewhere net x y (value-refused net x y p e))) e,
+    ⊎-elim (λ h. rank-wrong-sheet net (h .0) .0 x y (h .1) (h .2)) (λ h. let (p, n) = h in rank-wrong-sheet net (n .0) .1 x y p (n .1) (n .2)),
+  ),
+  λ s. (
+    once-refused (twoRuns s) _ (two-runs-ahead s) (λ v next p e. absurd (rank-elsewhere (v .0) (v .1 .0) (v .1 .1) (printed-refused (v .0) (v .1 .0) (v .1 .1) e))),
+    ⊎-elim
+        (λ h.
+        let (net, behind, p, whole, ahead) = h in
+        let (n, rest, small, other, line) = ahead in
+        rw (whole, line) (rank-wrong-sheet net p .2 n small other rest .0))
+        (λ h.
+        let (net, x, behind, p, whole, ahead) = h in
+        let (n, rest, small, other, line) = ahead in
+        let first = also-first (netCard .check net 1) _ p in
+        rw (whole, line) (rank-wrong-sheet net first .2 n small other rest .1 x (also-second (netCard .check net 1) _ p))),
+  ),
+)
 
 pub rank-slots : RankSlots
 rank-slots a b x y p q n s t = same-rank-values n s t
@@ -237,8 +300,8 @@ two-runs-inverse = (
   λ s net x y next e. two-runs-was s e .bytes,
   λ net x y p. (
     netCard .clean net,
-    runCard (net .transitions) .clean x,
-    runCard (net .transitions) .clean y,
+    cardOf runCard net .clean x,
+    cardOf runCard net .clean y,
     two-runs-back net x y p,
     clean-net net x y p,
     clean-x net x y p,

@@ -10,7 +10,7 @@ use Rattle.laws.specs.Tests.{sameNumbers}
 use Rattle.reply.specs.declared.Refusal.the-variants.{OtherOrder}
 use Rattle.reply.specs.declared.Checked.{Checked}
 use Rattle.reply.specs.declared.Checked.the-variants.{Passed, Refused}
-use Rattle.form.specs.Form.{also}
+use Rattle.form.specs.Form.{also, Form}
 use Rattle.net.specs.declared.Net.{Net}
 use Rattle.net.specs.Net.{netCard}
 use Rattle.net.specs.Same.{SameNet}
@@ -24,7 +24,8 @@ use Rattle.run.proofs.Same.{same-firings, same-run-check}
 use Rattle.firing.specs.declared.Played.{Played}
 use Rattle.timing.specs.Windows.{instants}
 use Rattle.timing.specs.Rounding.{lastInstant, endInstant}
-use Rattle.cards.specs.Cards.{twoRunsChecked}
+use Rattle.cards.specs.Cards.{cardOf, twoRunsChecked}
+use Rattle.cards.proofs.Cards.{same-card}
 use Rattle.operations.proofs.Same.{replays-same}
 use Rattle.ranking.specs.declared.Ranking.the-variants.{Ranked}
 use Rattle.ranking.specs.Lead.{ofOneOrder, instantOf, leadAt, unlessLevel, leadFrom, leadOf, signOf}
@@ -73,11 +74,10 @@ module _ {x y p q : Run} (s : SameRun x p) (t : SameRun y q) where
 module _ {a b : Net} (n : SameNet a b) {x y p q : Run} (s : SameRun x p) (t : SameRun y q) where
   same-checked : twoRunsChecked a x y ≡ twoRunsChecked b p q
   same-checked =
-      let of : ℕ → Run → Run → Checked = λ k u v. also (netCard .check b 1) (also (runCard k .check u 1) (runCard k .check v 1)) in
-      ap (λ (c : Checked). also c (also (runCard (a .transitions) .check x 1) (runCard (a .transitions) .check y 1))) (same-net-check n 1)
-      ∙ ap (λ (k : ℕ). of k x y) (n .transitions)
-      ∙ ap (λ (c : Checked). also (netCard .check b 1) (also c (runCard (b .transitions) .check y 1))) (same-run-check (b .transitions) s 1)
-      ∙ ap (λ (c : Checked). also (netCard .check b 1) (also (runCard (b .transitions) .check p 1) c)) (same-run-check (b .transitions) t 1)
+      ap (λ (c : Checked). also c (also (cardOf runCard a .check x 1) (cardOf runCard a .check y 1))) (same-net-check n 1)
+      ∙ ap (λ (f : Form Run). also (netCard .check b 1) (also (f .check x 1) (f .check y 1))) (same-card runCard n)
+      ∙ ap (λ (c : Checked). also (netCard .check b 1) (also c (cardOf runCard b .check y 1))) (same-run-check (b .sheet) (b .transitions) s 1)
+      ∙ ap (λ (c : Checked). also (netCard .check b 1) (also (cardOf runCard b .check p 1) c)) (same-run-check (b .sheet) (b .transitions) t 1)
 
   same-replayed : {u v : Run} → SameRun u v → replayed a u ≡ replayed b v
   same-replayed w = ap (λ (d : Played). d .checked) (replays-same n w)

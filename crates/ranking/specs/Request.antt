@@ -2,26 +2,30 @@
 use Prim.Native.Nat.{ℕ, _≤_}
 use mathlib.Core.Path.{_≡_}
 use mathlib.Core.Logic.{_↔_, _⊎_}
-use mathlib.Core.List.{List}
+use mathlib.Core.List.{List, _++_}
 use lib.ListN.{length, take}
 use lib.IntN.{ℤ, pos, negsuc, negℤ}
 use Rattle.reply.specs.declared.Refusal.{Refusal}
-use Rattle.reply.specs.declared.Refusal.the-variants.{OtherOrder}
+use Rattle.reply.specs.declared.Refusal.the-variants.{OtherOrder, AnotherSheet}
 use Rattle.reply.specs.declared.Checked.the-variants as checked
 use Rattle.reply.specs.Respond.{answer, refusal, Answered}
 use Rattle.reply.specs.Demanded.{Demanded}
 use Rattle.form.specs.Form.{found, refused}
+use Rattle.form.specs.Sheet.{sheet}
 use Rattle.net.specs.declared.Net.{Net}
+use Rattle.net.specs.Net.{netCard}
 use Rattle.net.specs.Same.{SameNet, writableNet}
 use Rattle.run.specs.declared.Run.{Run}
 use Rattle.run.specs.declared.Order.{Order}
-use Rattle.run.specs.Run.{firingsOf, firesOf, orderOf}
+use Rattle.run.specs.Run.{runCard, firingsOf, firesOf, orderOf}
 use Rattle.run.specs.Same.{SameRun, writableRun}
 use Rattle.firing.specs.Semantics.{Restart}
 use Rattle.firing.specs.Replay.{replay}
-use Rattle.cards.specs.Cards.{readRun, twoRuns, runChecked, orderChecked, twoRunsChecked, twoRunsInput}
+use Rattle.cards.specs.Cards.{cardOf, readRun, twoRuns, runChecked, orderChecked, twoRunsChecked, twoRunsInput}
+use Rattle.cards.specs.Claims.{OnAnotherSheet, SecondOnAnother}
 use Rattle.operations.specs.Timetable.{timetableBy, timetableValues}
 use Rattle.operations.specs.Demands.{Allows}
+use Rattle.operations.specs.Requests.{Elsewhere}
 use Rattle.ranking.specs.declared.Ranking.the-variants.{Ranked, Refused}
 use Rattle.ranking.specs.Lead.{leadAt, signOf}
 use Rattle.ranking.specs.Claims.{OfOneOrder, Before, Level}
@@ -95,6 +99,28 @@ RankOfCards =
 abbrev pub RankAsCards : Type 0
 RankAsCards = (net : Net) (x y : Run) → printed (rankValues net x y) ≡ rankCards (twoRunsInput (writableNet net) (writableRun x) (writableRun y))
 
+-- ---- document 02, Q-3: runs that are ranked are on their net's sheet
+abbrev pub RankedSheet : Type 0
+RankedSheet = (net : Net) (x y : Run) (rank lead : ℤ) → rankValues net x y ≡ Ranked rank lead → (x .sheet ≡ net .sheet) × (y .sheet ≡ net .sheet)
+
+-- another sheet is 11 at line 1: X's before Y is looked at, Y's before any replay; over cards whatever stands behind the line
+abbrev pub RankWrongSheet : Type 0
+RankWrongSheet =
+    (net : Net) → netCard .check net 1 ≡ checked.Passed
+    → ((x y : Run) → x .sheet ≤ 9999 → (x .sheet ≡ net .sheet → ⊥) → rankValues net x y ≡ Refused (AnotherSheet 1))
+    × ((x y : Run) → runChecked net x ≡ checked.Passed → y .sheet ≤ 9999 → (y .sheet ≡ net .sheet → ⊥) → rankValues net x y ≡ Refused (AnotherSheet 1))
+    × ((n : ℕ) → n ≤ 9999 → (n ≡ net .sheet → ⊥) → (rest : List ℕ) → let line = sheet .text n ++ rest in
+    (rankCards (netCard .text net ++ line) ≡ refusal (AnotherSheet 1))
+    × ((x : Run) → cardOf runCard net .check x 1 ≡ checked.Passed
+    → rankCards (netCard .text net ++ (cardOf runCard net .text x ++ line)) ≡ refusal (AnotherSheet 1)))
+
+-- and it is told of nothing else
+abbrev pub RankWrongSheetExactly : Type 0
+RankWrongSheetExactly =
+    ((net : Net) (x y : Run) → (rankValues net x y ≡ Refused (AnotherSheet 1))
+    ↔ (Elsewhere net (x .sheet) ⊎ ((runChecked net x ≡ checked.Passed) × Elsewhere net (y .sheet))))
+    × ((s : List ℕ) → (rankCards s ≡ refusal (AnotherSheet 1)) ↔ (OnAnotherSheet s ⊎ SecondOnAnother s))
+
 -- ---- what demands 1 and 2 ask of every operation
 abbrev pub RankReplies : Type 0
 RankReplies = (s : List ℕ) → Demanded (rankCards s)
@@ -102,9 +128,9 @@ RankReplies = (s : List ℕ) → Demanded (rankCards s)
 abbrev pub RankSlots : Type 0
 RankSlots = (a b : Net) (x y p q : Run) → SameNet a b → SameRun x p → SameRun y q → rankValues a x y ≡ rankValues b p q
 
--- the first 15,998 bytes of an input decide
+-- the first 16,046 bytes of an input decide
 abbrev pub RankPrefix : Type 0
-RankPrefix = (s : List ℕ) (k : ℕ) → 15998 ≤ k → rankCards (take k s) ≡ rankCards s
+RankPrefix = (s : List ℕ) (k : ℕ) → 16046 ≤ k → rankCards (take k s) ≡ rankCards s
 
 -- reading the three cards and writing them again gives back their bytes, and writing them and reading gives back the same values
 abbrev pub TwoRunsInverse : Type 0

@@ -100,7 +100,7 @@ fn check_rankable(net: Net, x: Run, y: Run) -> Checked
 
 // The instants that decide: those of the first firing at which they differ, else the ends.
 fn deciding(x: Run, y: Run) -> Crossed
-    requires { ⌜ ((n : ℕ) × (runCard n .check x 1 ≡ Passed)) × ((n : ℕ) × (runCard n .check y 1 ≡ Passed)) × (x .count ≡ y .count) ⌝ }
+    requires { ⌜ ((s : ℕ) × (n : ℕ) × (runCard s n .check x 1 ≡ Passed)) × ((s : ℕ) × (n : ℕ) × (runCard s n .check y 1 ≡ Passed)) × (x .count ≡ y .count) ⌝ }
     ensures { λ r. ⌜ (pos (r .x) -ℤ pos (r .y) ≡ leadOf x y) × (r .x < 2 ^ 40) × (r .y < 2 ^ 40) ⌝ }
 {
     let dx = x.denominator as u64;
@@ -160,7 +160,7 @@ fn check_two_runs(net: Net, x: Run, y: Run) -> Checked
     let Checked::Passed = c else {
         return c;
     };
-    run_card::check_run_lines(y, net.transitions)
+    run_card::check_run_lines(y, net.sheet, net.transitions)
 }
 
 // Ranks run X among two runs of one order on a net, all handed over as values.
@@ -210,10 +210,10 @@ pub fn rank_cards(input: &[u8], out: &mut [u8]) -> Reply
 {
     let n = net_card::read_net(input);
     let net_read = n.read;
-    let x = run_card::run_behind(input, net_read, n.net.transitions, false);
+    let x = run_card::run_behind(input, net_read, n.net.sheet, n.net.transitions, false);
     let x_read = x.read;
     let behind = net_card::remainder(input, net_read);
-    let y = run_card::run_behind(behind, x_read, n.net.transitions, true);
+    let y = run_card::run_behind(behind, x_read, n.net.sheet, n.net.transitions, true);
     let y_read = y.read;
     match y_read {
         LineRead::Stopped(why) => Reply::Refused(why),

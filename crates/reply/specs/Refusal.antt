@@ -2,7 +2,7 @@
 use Prim.Native.Nat.{ℕ}
 use Rattle.reply.specs.declared.Refusal.{Refusal}
 use Rattle.reply.specs.declared.Refusal.the-variants.{Malformed, OutOfRange, LatestBelowEarliest, NoSuchTransition, NotEnabled, TooManyTokens}
-use Rattle.reply.specs.declared.Refusal.the-variants.{OutsideInterval, Untimable, OutputTooShort, OtherOrder}
+use Rattle.reply.specs.declared.Refusal.the-variants.{OutsideInterval, Untimable, OutputTooShort, OtherOrder, AnotherSheet}
 
 abbrev pub numberOf : Refusal → ℕ
 numberOf (Malformed line) = 1
@@ -15,6 +15,7 @@ numberOf (OutsideInterval firing) = 7
 numberOf (Untimable firing) = 8
 numberOf OutputTooShort = 9
 numberOf OtherOrder = 10
+numberOf (AnotherSheet line) = 11
 
 -- a line of a card from 1, a firing from 1, or 0 where the output is too short or two runs are not of one order
 abbrev pub positionOf : Refusal → ℕ
@@ -28,3 +29,4 @@ positionOf (OutsideInterval firing) = firing
 positionOf (Untimable firing) = firing
 positionOf OutputTooShort = 0
 positionOf OtherOrder = 0
+positionOf (AnotherSheet line) = line

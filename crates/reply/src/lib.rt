@@ -3,8 +3,8 @@ ghost use mathlib.Core.Path.{_≡_};
 ghost use Rattle.reply.specs.Refusal.{numberOf, positionOf};
 ghost use Rattle.reply.specs.Respond.{Responded, answer};
 
-// Why an operation gives no answer. The variants hold the place that documents 01 and 02 print with them: a line of a card for the first four, a
-// firing for the next four, both from 1. Those behind them have place 0: an output too short, two runs that are not of one order.
+// Why an operation gives no answer. The variants hold the place that documents 01 and 02 print with them: a line of a card for the first four and the
+// last, a firing for the next four, both from 1. The others have place 0: an output too short, two runs that are not of one order.
 pub enum Refusal {
     Malformed(usize),
     OutOfRange(usize),
@@ -16,6 +16,7 @@ pub enum Refusal {
     Untimable(usize),
     OutputTooShort,
     OtherOrder,
+    AnotherSheet(usize),
 }
 
 // What a check of a value or of one line says.
@@ -45,6 +46,7 @@ pub fn number_of(r: Refusal) -> u32
         Refusal::Untimable(_) => 8,
         Refusal::OutputTooShort => 9,
         Refusal::OtherOrder => 10,
+        Refusal::AnotherSheet(_) => 11,
     }
 }
 
@@ -63,6 +65,7 @@ pub fn position_of(r: Refusal) -> usize
         Refusal::Untimable(firing) => firing,
         Refusal::OutputTooShort => 0,
         Refusal::OtherOrder => 0,
+        Refusal::AnotherSheet(line) => line,
     }
 }
 

@@ -19,10 +19,11 @@ use Rattle.form.proofs.Found.{not-both, refused-same}
 use Rattle.form.proofs.Combine.{was-same}
 use Rattle.form.proofs.Lines.{word-was}
 use Rattle.form.proofs.Places.{line-placed}
+use Rattle.form.proofs.Sheets.{sheet-format}
 use Rattle.form.proofs.Format.{keyed-format, pair-format, held-format, times-format, ranged-format, listed-format, counted-format}
 use Rattle.run.specs.declared.Memory.{Memory}
 use Rattle.run.specs.declared.Memory.the-variants.{Intermediate, Atomic, Carry}
-use Rattle.run.specs.Run.{memoryText, memory, fire, toFiring, fromFiring, firing, noFiring, steps, toRun, fromRun, runCard, toOrder, fromOrder, orderCard}
+use Rattle.run.specs.Run.{memoryText, memory, fire, toFiring, fromFiring, firing, noFiring, steps, runLines, toRun, fromRun, runCard, orderLines, toOrder, fromOrder, orderCard}
 
 pub memory-back : (m : Memory) (s rest : List ℕ) (at line : ℕ) → memory .check m line ≡ Passed → drop at s ≡ memory .text m ++ rest
     → memory .read s at line ≡ found m (at + length (memory .text m))
@@ -105,21 +106,25 @@ fires-format transitions count = times-format count 64 0 (fire-format transition
 
 -- as many bytes as a reading of a run card, and of an order card, looks at
 abbrev pub runReach : ℕ
-runReach = 1995
+runReach = 2011
 
 abbrev pub orderReach : ℕ
-orderReach = 998
+orderReach = 1014
 
--- a run card has 132 lines at most, two for each of 64 firings and four more, and an order card 66
-pub run-format : (transitions : ℕ) → Format (transitions ≤ 32) (runCard transitions) runReach 132
-run-format transitions =
-    held-format toRun fromRun (λ v. refl)
-    (pair-format (keyed-format (bytes "memory=") memory-format)
+-- a run card has 133 lines at most, two for each of 64 firings and five more, and an order card 67
+pub run-lines-format : (transitions : ℕ) → Format (transitions ≤ 32) (runLines transitions) 1995 132
+run-lines-format transitions =
+    pair-format (keyed-format (bytes "memory=") memory-format)
     (pair-format (ranged-format (bytes "denominator=") 1 1000 (lit< tt))
-    (counted-format (bytes "firings=") 0 64 (lit< tt) (steps-format transitions) (λ count few h. h))))
+    (counted-format (bytes "firings=") 0 64 (lit< tt) (steps-format transitions) (λ count few h. h)))
 
-pub order-format : (transitions : ℕ) → Format (transitions ≤ 32) (orderCard transitions) orderReach 66
-order-format transitions =
-    held-format toOrder fromOrder (λ v. refl)
-    (pair-format (keyed-format (bytes "memory=") memory-format)
-    (counted-format (bytes "firings=") 0 64 (lit< tt) (fires-format transitions) (λ count few h. h)))
+pub run-format : (sheet transitions : ℕ) → Format (transitions ≤ 32) (runCard sheet transitions) runReach 133
+run-format sheet transitions = held-format toRun fromRun (λ v. refl) (sheet-format sheet (run-lines-format transitions))
+
+pub order-lines-format : (transitions : ℕ) → Format (transitions ≤ 32) (orderLines transitions) 998 66
+order-lines-format transitions =
+    pair-format (keyed-format (bytes "memory=") memory-format)
+    (counted-format (bytes "firings=") 0 64 (lit< tt) (fires-format transitions) (λ count few h. h))
+
+pub order-format : (sheet transitions : ℕ) → Format (transitions ≤ 32) (orderCard sheet transitions) orderReach 67
+order-format sheet transitions = held-format toOrder fromOrder (λ v. refl) (sheet-format sheet (order-lines-format transitions))

@@ -1,4 +1,4 @@
--- A run card passes its check exactly when each of its numbers lies in its range; and what an order card that passes says of its numbers.
+-- A run card passes its check exactly when it is on its net's sheet and each of its numbers lies in its range; and what an order card that passes says of its numbers.
 use Prim.Native.Nat.{ℕ, _+_, _≤_, _<_}
 use native.Mathlib.Omega.{arith}
 use mathlib.Core.Path.{_≡_, refl}
@@ -12,7 +12,9 @@ use Rattle.reply.specs.declared.Checked.the-variants.{Passed}
 use Rattle.form.specs.Form.{checks}
 use Rattle.form.specs.Line.{ranged, listed}
 use Rattle.form.proofs.Found.{also-first, also-second, checks-each, test-passed}
+use Rattle.form.specs.Sheet.{sheetChecked}
 use Rattle.form.proofs.Lines.{ranged-within}
+use Rattle.form.proofs.Sheets.{sheet-within, sheet-same, own-sheet}
 use Rattle.run.specs.declared.Firing.{Firing}
 use Rattle.run.specs.declared.Run.{Run}
 use Rattle.run.specs.declared.Order.{Order}
@@ -45,43 +47,65 @@ module _ (transitions : ℕ) where
   fires-fit : (l : List ℕ) (line : ℕ) → checks (fire transitions) l line ≡ Passed → Each (λ t. t < transitions) l
   fires-fit = checks-each (fire transitions) (λ t. t < transitions) (listed-within transitions)
 
--- a run whose numbers lie in their ranges
-pub record RunFits (transitions : ℕ) (r : Run) : Type 0 where
+-- a run on a net's sheet whose numbers lie in their ranges
+pub record RunFits (sheet transitions : ℕ) (r : Run) : Type 0 where
+  pub own : r .sheet ≡ sheet
+  pub sheet-small : sheet ≤ 9999
   pub some-parts : 1 ≤ r .denominator
   pub few-parts : r .denominator ≤ 1000
   pub few : r .count ≤ 64
   pub each : Each (FiringFits transitions) (firingsOf r)
   pub rest : r .rest ≤ 10000000
 
-pub run-in-ranges : (transitions : ℕ) (r : Run) → (runCard transitions .check r 1 ≡ Passed) ↔ RunFits transitions r
-unfolding firingsOf
-run-in-ranges transitions r =
-    let denominator = ranged 1 1000 (r .denominator) 2 in
-    let count = ranged 0 64 (r .count) 3 in
-    let firings = checks (firing transitions) (firingsOf r) 4 in (
-      λ e.
-          let behind = also-second denominator _ e in
-          let last = also-second count _ behind in
-          let parts = ranged-within 1 1000 (r .denominator) 2 (also-first denominator _ e) in
-          record {
-            some-parts = parts .0;
-            few-parts = parts .1;
-            few = ranged-within 0 64 (r .count) 3 (also-first count _ behind) .1;
-            each = firings-fit transitions (firingsOf r) 4 (also-first firings _ last);
-            rest = ranged-within 0 10000000 (r .rest) _ (also-second firings _ last) .1;
-          },
-      λ f.
-          rw (
-            ranged-passes 1 1000 (r .denominator) 2 (f .some-parts) (f .few-parts),
-            ranged-passes 0 64 (r .count) 3 (omega arith) (f .few),
-            firings-pass transitions (firingsOf r) 4 (f .each),
-          ) (ranged-passes 0 10000000 (r .rest) _ (omega arith) (f .rest)),
-    )
+-- and such an order
+pub record OrderFits (sheet transitions : ℕ) (o : Order) : Type 0 where
+  pub own : o .sheet ≡ sheet
+  pub sheet-small : sheet ≤ 9999
+  pub few : o .count ≤ 64
+  pub each : Each (λ t. t < transitions) (firesOf o)
 
-pub order-in-ranges : (transitions : ℕ) (o : Order) → orderCard transitions .check o 1 ≡ Passed → (o .count ≤ 64) × Each (λ t. t < transitions) (firesOf o)
-unfolding firesOf
-order-in-ranges transitions o e = (
-  ranged-within 0 64 (o .count) 2 (also-first (ranged 0 64 (o .count) 2) _ e) .1,
-  fires-fit transitions (firesOf o) 3
-      (also-second (ranged 0 64 (o .count) 2) _ e),
-)
+module _ (sheet transitions : ℕ) where
+  pub run-in-ranges : (r : Run) → (runCard sheet transitions .check r 1 ≡ Passed) ↔ RunFits sheet transitions r
+  unfolding firingsOf
+  run-in-ranges r =
+      let first = sheetChecked sheet (r .sheet) 1 in
+      let denominator = ranged 1 1000 (r .denominator) 3 in
+      let count = ranged 0 64 (r .count) 4 in
+      let firings = checks (firing transitions) (firingsOf r) 5 in (
+        λ e.
+            let behind = also-second first _ e in
+            let later = also-second denominator _ behind in
+            let last = also-second count _ later in
+            let own = sheet-same sheet (r .sheet) 1 (also-first first _ e) in
+            let parts = ranged-within 1 1000 (r .denominator) 3 (also-first denominator _ behind) in
+            record {
+              own = own;
+              sheet-small = omega (arith, sheet-within sheet (r .sheet) 1 (also-first first _ e));
+              some-parts = parts .0;
+              few-parts = parts .1;
+              few = ranged-within 0 64 (r .count) 4 (also-first count _ later) .1;
+              each = firings-fit transitions (firingsOf r) 5 (also-first firings _ last);
+              rest = ranged-within 0 10000000 (r .rest) _ (also-second firings _ last) .1;
+            },
+        λ f.
+            rw (
+              own-sheet sheet (r .sheet) 1 (omega (arith, f .sheet-small, f .own)) (f .own),
+              ranged-passes 1 1000 (r .denominator) 3 (f .some-parts) (f .few-parts),
+              ranged-passes 0 64 (r .count) 4 (omega arith) (f .few),
+              firings-pass transitions (firingsOf r) 5 (f .each),
+            ) (ranged-passes 0 10000000 (r .rest) _ (omega arith) (f .rest)),
+      )
+
+  pub order-in-ranges : (o : Order) → orderCard sheet transitions .check o 1 ≡ Passed → OrderFits sheet transitions o
+  unfolding firesOf
+  order-in-ranges o e =
+      let first = sheetChecked sheet (o .sheet) 1 in
+      let count = ranged 0 64 (o .count) 3 in
+      let behind = also-second first _ e in
+      let own = sheet-same sheet (o .sheet) 1 (also-first first _ e) in
+      record {
+        own = own;
+        sheet-small = omega (arith, sheet-within sheet (o .sheet) 1 (also-first first _ e));
+        few = ranged-within 0 64 (o .count) 3 (also-first count _ behind) .1;
+        each = fires-fit transitions (firesOf o) 4 (also-second count _ behind);
+      }

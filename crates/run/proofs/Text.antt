@@ -1,4 +1,4 @@
--- The text of a run card and of an order card is the same whatever net it is of: the number of transitions decides only what is refused.
+-- The text of a run card and of an order card is the same whatever net it is of: the sheet and the number of transitions decide only what is refused.
 use Prim.Native.Nat.{ℕ, min}
 use mathlib.Core.List.{List, [], _∷_}
 use mathlib.Core.Path.{_≡_, refl}
@@ -14,8 +14,8 @@ unfolding texts
 texts-same f g h [] = refl
 texts-same f g h (a ∷ l) = rw (h a, texts-same f g h l) refl
 
-pub run-text : (a b : ℕ) (r : Run) → runCard a .text r ≡ runCard b .text r
-run-text a b r = rw (texts-same (firing a) (firing b) (λ f. refl) (firstOf (min (r .count) 64) noFiring (r .firings))) refl
+pub run-text : (s a t b : ℕ) (r : Run) → runCard s a .text r ≡ runCard t b .text r
+run-text s a t b r = rw (texts-same (firing a) (firing b) (λ f. refl) (firstOf (min (r .count) 64) noFiring (r .firings))) refl
 
-pub order-text : (a b : ℕ) (o : Order) → orderCard a .text o ≡ orderCard b .text o
-order-text a b o = rw (texts-same (fire a) (fire b) (λ n. refl) (firstOf (min (o .count) 64) 0 (o .fires))) refl
+pub order-text : (s a t b : ℕ) (o : Order) → orderCard s a .text o ≡ orderCard t b .text o
+order-text s a t b o = rw (texts-same (fire a) (fire b) (λ n. refl) (firstOf (min (o .count) 64) 0 (o .fires))) refl

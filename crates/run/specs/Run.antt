@@ -1,4 +1,4 @@
--- Document 01, "Cards": the run card and the order card of a net with so many transitions, line by line.
+-- Document 01, "Cards", and document 02, Q-3: the run card and the order card of a net on a sheet and with so many transitions, line by line.
 use Prim.Native.Nat.{ℕ, _+_, min}
 use mathlib.Core.Bool.{cond}
 use mathlib.Core.List.{List, map}
@@ -9,6 +9,7 @@ use Rattle.reply.specs.declared.Checked.the-variants.{Passed}
 use Rattle.text.specs.Key.{bytes, beginsWith}
 use Rattle.form.specs.Form.{found, refused, Form, keyed, chain, times, held}
 use Rattle.form.specs.Line.{ranged, listed, number}
+use Rattle.form.specs.Sheet.{onSheet}
 use Rattle.run.specs.declared.Memory.{Memory}
 use Rattle.run.specs.declared.Memory.the-variants.{Intermediate, Atomic, Carry}
 use Rattle.run.specs.declared.Firing.{Firing}
@@ -66,34 +67,42 @@ noFiring = record { wait = 0; fire = 0 }
 abbrev pub steps : ℕ → ℕ → Form (List Firing × ℕ)
 steps transitions count = chain (times count 64 noFiring (firing transitions)) (λ _. parts (bytes "rest="))
 
--- a run card: `memory`, `denominator` D (1 to 1,000), `firings`, the firings, `rest`
+-- a run card: the net's `sheet`, `memory`, `denominator` D (1 to 1,000), `firings`, the firings, `rest`
 abbrev pub runLines : ℕ → Form (Memory × (ℕ × (ℕ × (List Firing × ℕ))))
 runLines transitions =
     chain (keyed (bytes "memory=") memory)
     (λ _. chain (keyed (bytes "denominator=") (number (ranged 1 1000))) (λ _. chain firings (λ count. steps transitions count)))
 
-abbrev pub toRun : Memory × (ℕ × (ℕ × (List Firing × ℕ))) → Run
-toRun v = record { memory = v .0; denominator = v .1 .0; count = v .1 .1 .0; firings = v .1 .1 .1 .0; rest = v .1 .1 .1 .1 }
+abbrev pub toRun : ℕ × (Memory × (ℕ × (ℕ × (List Firing × ℕ)))) → Run
+toRun v =
+    record {
+      sheet = v .0;
+      memory = v .1 .0;
+      denominator = v .1 .1 .0;
+      count = v .1 .1 .1 .0;
+      firings = v .1 .1 .1 .1 .0;
+      rest = v .1 .1 .1 .1 .1;
+    }
 
-abbrev pub fromRun : Run → Memory × (ℕ × (ℕ × (List Firing × ℕ)))
-fromRun r = (r .memory, (r .denominator, (r .count, (r .firings, r .rest))))
+abbrev pub fromRun : Run → ℕ × (Memory × (ℕ × (ℕ × (List Firing × ℕ))))
+fromRun r = (r .sheet, (r .memory, (r .denominator, (r .count, (r .firings, r .rest)))))
 
-abbrev pub runCard : ℕ → Form Run
-runCard transitions = held toRun fromRun (runLines transitions)
+abbrev pub runCard : ℕ → ℕ → Form Run
+runCard sheet transitions = held toRun fromRun (onSheet sheet (runLines transitions))
 
--- an order card: `memory`, `firings`, then the `fire` lines
+-- an order card: the net's `sheet`, `memory`, `firings`, then the `fire` lines
 abbrev pub orderLines : ℕ → Form (Memory × (ℕ × List ℕ))
 orderLines transitions =
     chain (keyed (bytes "memory=") memory) (λ _. chain firings (λ count. times count 64 0 (fire transitions)))
 
-abbrev pub toOrder : Memory × (ℕ × List ℕ) → Order
-toOrder v = record { memory = v .0; count = v .1 .0; fires = v .1 .1 }
+abbrev pub toOrder : ℕ × (Memory × (ℕ × List ℕ)) → Order
+toOrder v = record { sheet = v .0; memory = v .1 .0; count = v .1 .1 .0; fires = v .1 .1 .1 }
 
-abbrev pub fromOrder : Order → Memory × (ℕ × List ℕ)
-fromOrder o = (o .memory, (o .count, o .fires))
+abbrev pub fromOrder : Order → ℕ × (Memory × (ℕ × List ℕ))
+fromOrder o = (o .sheet, (o .memory, (o .count, o .fires)))
 
-abbrev pub orderCard : ℕ → Form Order
-orderCard transitions = held toOrder fromOrder (orderLines transitions)
+abbrev pub orderCard : ℕ → ℕ → Form Order
+orderCard sheet transitions = held toOrder fromOrder (onSheet sheet (orderLines transitions))
 
 -- ---- what counts of a value
 -- the firings of a run, and the fired transitions of an order

@@ -10,6 +10,7 @@ use Rattle.run.specs.declared.Order.{Order}
 use Rattle.run.specs.Run.{noFiring}
 
 pub record SameRun (a b : Run) : Type 0 where
+  pub sheet : a .sheet ≡ b .sheet
   pub memory : a .memory ≡ b .memory
   pub denominator : a .denominator ≡ b .denominator
   pub count : a .count ≡ b .count
@@ -17,6 +18,7 @@ pub record SameRun (a b : Run) : Type 0 where
   pub rest : a .rest ≡ b .rest
 
 pub record SameOrder (a b : Order) : Type 0 where
+  pub sheet : a .sheet ≡ b .sheet
   pub memory : a .memory ≡ b .memory
   pub count : a .count ≡ b .count
   pub fires : (i : ℕ) → i < b .count → getD (a .fires) i 0 ≡ getD (b .fires) i 0
@@ -28,6 +30,7 @@ writableFiring f = record { wait = writable (f .wait); fire = writable (f .fire)
 unfoldable pub writableRun : Run → Run
 writableRun r =
     record {
+      sheet = writable (r .sheet);
       memory = r .memory;
       denominator = writable (r .denominator);
       count = writable (r .count);
@@ -36,4 +39,4 @@ writableRun r =
     }
 
 unfoldable pub writableOrder : Order → Order
-writableOrder o = record { memory = o .memory; count = writable (o .count); fires = map writable (o .fires) }
+writableOrder o = record { sheet = writable (o .sheet); memory = o .memory; count = writable (o .count); fires = map writable (o .fires) }

@@ -13,8 +13,9 @@ pub struct Firing {
     pub fire: u32,
 }
 
-// A timed run: a part is one tick divided by the denominator. Slots past the count are no part of it.
+// A timed run of the net on a sheet: a part is one tick divided by the denominator. Slots past the count are no part of it.
 pub struct Run {
+    pub sheet: u32,
     pub memory: Memory,
     pub denominator: u32,
     pub count: usize,
@@ -22,8 +23,9 @@ pub struct Run {
     pub rest: u32,
 }
 
-// A firing order. Slots past the count are no part of it.
+// A firing order of the net on a sheet. Slots past the count are no part of it.
 pub struct Order {
+    pub sheet: u32,
     pub memory: Memory,
     pub count: usize,
     pub fires: [u32; 64],

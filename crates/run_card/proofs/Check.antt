@@ -12,6 +12,7 @@ use Rattle.reply.specs.declared.Checked.{Checked}
 use Rattle.reply.specs.declared.Checked.the-variants.{Passed, Refused}
 use Rattle.form.specs.Form.{checks}
 use Rattle.form.specs.Line.{ranged, listed}
+use Rattle.form.specs.Sheet.{sheetChecked}
 use Rattle.form.proofs.Answers.{exactly-lines}
 use Rattle.form.proofs.Lines.{ranged-within}
 use Rattle.form.proofs.Loops.{Checking, checking-more}
@@ -30,47 +31,55 @@ module _ (transitions : ℕ) (f : Firing) (line : ℕ) where
 
 -- ---- the loops
 module _ (transitions : ℕ) {count i : ℕ} where
-  pub firing-passed : {l : List Firing} → Checking (firing transitions) count noFiring l 4 i (4 + 2 * i) → i < count
-      → firing transitions .check (getD l i noFiring) (4 + 2 * i) ≡ Passed → Checking (firing transitions) count noFiring l 4 (i + 1) (4 + 2 * (i + 1))
+  pub firing-passed : {l : List Firing} → Checking (firing transitions) count noFiring l 5 i (5 + 2 * i) → i < count
+      → firing transitions .check (getD l i noFiring) (5 + 2 * i) ≡ Passed → Checking (firing transitions) count noFiring l 5 (i + 1) (5 + 2 * (i + 1))
   firing-passed w h e =
-      let q : 4 + 2 * i + 2 ≡ 4 + 2 * (i + 1) = omega arith in
+      let q : 5 + 2 * i + 2 ≡ 5 + 2 * (i + 1) = omega arith in
       rw q at (checking-more w h e)
 
-  pub fire-passed : {l : List ℕ} → Checking (fire transitions) count 0 l 3 i (3 + i) → i < count → listed transitions (getD l i 0) (3 + i) ≡ Passed
-      → Checking (fire transitions) count 0 l 3 (i + 1) (3 + (i + 1))
+  pub fire-passed : {l : List ℕ} → Checking (fire transitions) count 0 l 4 i (4 + i) → i < count → listed transitions (getD l i 0) (4 + i) ≡ Passed
+      → Checking (fire transitions) count 0 l 4 (i + 1) (4 + (i + 1))
   fire-passed w h e =
-      let q : 3 + i + 1 ≡ 3 + (i + 1) = omega arith in
+      let q : 4 + i + 1 ≡ 4 + (i + 1) = omega arith in
       rw q at (checking-more w h e)
 
 -- ---- a run
-module _ (transitions : ℕ) (run : Run) where
-  pub denominator-fails : {r : Refusal} → ranged 1 1000 (run .denominator) 2 ≡ Refused r → Refused r ≡ runCard transitions .check run 1
-  denominator-fails e = rw e
+module _ (own transitions : ℕ) (run : Run) where
+  pub sheet-fails : {r : Refusal} → sheetChecked own (run .sheet) 1 ≡ Refused r → Refused r ≡ runCard own transitions .check run 1
+  sheet-fails e = rw e
 
-  module _ (d : ranged 1 1000 (run .denominator) 2 ≡ Passed) where
-    pub count-fails : {r : Refusal} → ranged 0 64 (run .count) 3 ≡ Refused r → Refused r ≡ runCard transitions .check run 1
-    count-fails e = rw (d, e)
+  module _ (h : sheetChecked own (run .sheet) 1 ≡ Passed) where
+    pub denominator-fails : {r : Refusal} → ranged 1 1000 (run .denominator) 3 ≡ Refused r → Refused r ≡ runCard own transitions .check run 1
+    denominator-fails e = rw (h, e)
 
-    module _ (n : ranged 0 64 (run .count) 3 ≡ Passed) where
-      -- what the check of the firings says
-      abbrev firingsChecked : Checked
-      firingsChecked = checks (firing transitions) (firstOf (run .count) noFiring (run .firings)) 4
+    module _ (d : ranged 1 1000 (run .denominator) 3 ≡ Passed) where
+      pub count-fails : {r : Refusal} → ranged 0 64 (run .count) 4 ≡ Refused r → Refused r ≡ runCard own transitions .check run 1
+      count-fails e = rw (h, d, e)
 
-      -- all firings count
-      all-count : min (run .count) 64 ≡ run .count
-      all-count = min-eq-left (ranged-within 0 64 (run .count) 3 n .1)
+      module _ (n : ranged 0 64 (run .count) 4 ≡ Passed) where
+        -- what the check of the firings says
+        abbrev firingsChecked : Checked
+        firingsChecked = checks (firing transitions) (firstOf (run .count) noFiring (run .firings)) 5
 
-      pub firings-fail : {r : Refusal} → firingsChecked ≡ Refused r → Refused r ≡ runCard transitions .check run 1
-      firings-fail e = rw (d, n, all-count, e)
+        -- all firings count
+        all-count : min (run .count) 64 ≡ run .count
+        all-count = min-eq-left (ranged-within 0 64 (run .count) 4 n .1)
 
-      pub rest-decides : firingsChecked ≡ Passed → ranged 0 10000000 (run .rest) (4 + 2 * run .count) ≡ runCard transitions .check run 1
-      rest-decides e = rw (d, n, all-count, e, exactly-lines (run .count) 64 noFiring (firing transitions) 2 (λ f. refl) (run .firings))
+        pub firings-fail : {r : Refusal} → firingsChecked ≡ Refused r → Refused r ≡ runCard own transitions .check run 1
+        firings-fail e = rw (h, d, n, all-count, e)
+
+        pub rest-decides : firingsChecked ≡ Passed → ranged 0 10000000 (run .rest) (5 + 2 * run .count) ≡ runCard own transitions .check run 1
+        rest-decides e = rw (h, d, n, all-count, e, exactly-lines (run .count) 64 noFiring (firing transitions) 2 (λ f. refl) (run .firings))
 
 -- ---- an order
-module _ (transitions : ℕ) (order : Order) where
-  pub order-count-fails : {r : Refusal} → ranged 0 64 (order .count) 2 ≡ Refused r → Refused r ≡ orderCard transitions .check order 1
-  order-count-fails e = rw e
+module _ (own transitions : ℕ) (order : Order) where
+  pub order-sheet-fails : {r : Refusal} → sheetChecked own (order .sheet) 1 ≡ Refused r → Refused r ≡ orderCard own transitions .check order 1
+  order-sheet-fails e = rw e
 
-  pub fires-decide : ranged 0 64 (order .count) 2 ≡ Passed
-      → checks (fire transitions) (firstOf (order .count) 0 (order .fires)) 3 ≡ orderCard transitions .check order 1
-  fires-decide e = rw (e, min-eq-left (ranged-within 0 64 (order .count) 2 e .1))
+  module _ (h : sheetChecked own (order .sheet) 1 ≡ Passed) where
+    pub order-count-fails : {r : Refusal} → ranged 0 64 (order .count) 3 ≡ Refused r → Refused r ≡ orderCard own transitions .check order 1
+    order-count-fails e = rw (h, e)
+
+    pub fires-decide : ranged 0 64 (order .count) 3 ≡ Passed
+        → checks (fire transitions) (firstOf (order .count) 0 (order .fires)) 4 ≡ orderCard own transitions .check order 1
+    fires-decide e = rw (h, e, min-eq-left (ranged-within 0 64 (order .count) 3 e .1))

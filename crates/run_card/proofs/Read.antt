@@ -3,7 +3,7 @@
 use Prim.Native.Nat.{ℕ, _+_, _*_, _≤_, _<_}
 use native.Mathlib.Nat.{min-eq-left}
 use native.Mathlib.Omega.{arith}
-use mathlib.Core.Path.{_≡_, refl, ap, _∙_}
+use mathlib.Core.Path.{_≡_, refl, sym, ap, _∙_}
 use mathlib.Core.Bool.{Bool, true, false, _&&_}
 use mathlib.Core.List.{List}
 use lib.ListN.{length, set}
@@ -15,24 +15,28 @@ use Rattle.text.specs.Key.{bytes}
 use Rattle.form.specs.declared.NumberLine.the-variants.{Value, Refused}
 use Rattle.form.specs.Form.{Found, found, refused, andThen, Form, keyed, times, ended, alone}
 use Rattle.form.specs.Line.{ranged, number}
+use Rattle.form.specs.Sheet.{sheetOf}
 use Rattle.form.specs.Code.{numberLine}
+use Rattle.form.proofs.Found.{then-then}
 use Rattle.form.proofs.Lines.{ranged-read}
 use Rattle.form.proofs.Answers.{number-found, number-refused, exactly-lines}
+use Rattle.form.proofs.Sheets.{sheet-read}
 use Rattle.form.proofs.Loops.{Reading, reading-more, reading-refused, reading-done}
 use Rattle.run.specs.declared.Memory.{Memory}
 use Rattle.run.specs.declared.Firing.{Firing}
 use Rattle.run.specs.declared.Run.{Run}
-use Rattle.run.specs.Run.{memory, firings, fire, parts, firing, noFiring, steps, toRun, runCard, toOrder, orderCard}
+use Rattle.run.specs.declared.Order.{Order}
+use Rattle.run.specs.Run.{memory, firings, fire, parts, firing, noFiring, steps, runLines, toRun, runCard, orderLines, toOrder, orderCard}
 use Rattle.run_card.specs.declared.MemoryLine.the-variants as memory-line
 use Rattle.run_card.specs.declared.OneFiring.{OneFiring}
 use Rattle.run_card.specs.declared.OneFiring.the-variants as one-firing
 use Rattle.run_card.specs.declared.RunRead.{RunRead}
 use Rattle.run_card.specs.declared.OrderRead.{OrderRead}
-use Rattle.run_card.specs.Code.{memoryLine, oneFiring, runRead, orderRead, runFrom, wholeIf, runAt, orderFrom}
+use Rattle.run_card.specs.Code.{memoryLine, oneFiring, runRead, orderRead, runOn, runFrom, wholeIf, runAt, orderOn, orderFrom}
 
--- what stands in the first line of both cards
-abbrev memoryRead : List ℕ → Found Memory
-memoryRead s = keyed (bytes "memory=") memory .read s 0 1
+-- what stands in the line `memory` of both cards
+abbrev memoryRead : List ℕ → ℕ → Found Memory
+memoryRead s at = keyed (bytes "memory=") memory .read s at 2
 
 -- ---- what an answer tells
 memory-found : (f : Found Memory) {m : Memory} {next : ℕ} → memoryLine f ≡ memory-line.Value m next → f ≡ found m next
@@ -95,164 +99,194 @@ module _ {A : Type 0} {f : Form A} {n : ℕ} {d : A} {s : List ℕ} {at line : �
   times-lines k e = rw (min-eq-left (w .room)) (exactly-lines n 64 d f k e l)
 
 -- ---- what follows a run card, where it is to be the whole input
-whole-refused : (whole : Bool) (transitions : ℕ) (s : List ℕ) {r : Refusal} → runRead (refused r) ≡ runRead (wholeIf whole transitions s (refused r))
-whole-refused true transitions s = refl
-whole-refused false transitions s = refl
+whole-refused : (whole : Bool) (own transitions : ℕ) (s : List ℕ) {r : Refusal} → runRead (refused r) ≡ runRead (wholeIf whole own transitions s (refused r))
+whole-refused true own transitions s = refl
+whole-refused false own transitions s = refl
 
-module _ (whole : Bool) (transitions : ℕ) (s : List ℕ) (run : Run) (end : ℕ) where
+module _ (whole : Bool) (own transitions : ℕ) (s : List ℕ) (run : Run) (end : ℕ) where
   whole-followed : (whole && ltb end (length s)) ≡ true
-      → refused (Malformed (1 + runCard transitions .lines run)) ≡ wholeIf whole transitions s (found run end)
+      → refused (Malformed (1 + runCard own transitions .lines run)) ≡ wholeIf whole own transitions s (found run end)
   whole-followed = go whole
     where
-      go : (b : Bool) → (b && ltb end (length s)) ≡ true → refused (Malformed (1 + runCard transitions .lines run)) ≡ wholeIf b transitions s (found run end)
+      go : (b : Bool) → (b && ltb end (length s)) ≡ true → refused (Malformed (1 + runCard own transitions .lines run)) ≡ wholeIf b own transitions s (found run end)
       go true f = rw (lt-leb (length s) end (ltb-true end (length s) f)) refl
       go false f = let z : _≡_ {A = ℕ} 0 1 = cc in absurd (omega arith)
 
-  whole-ended : (whole && ltb end (length s)) ≡ false → found run end ≡ wholeIf whole transitions s (found run end)
+  whole-ended : (whole && ltb end (length s)) ≡ false → found run end ≡ wholeIf whole own transitions s (found run end)
   whole-ended = go whole
     where
-      go : (b : Bool) → (b && ltb end (length s)) ≡ false → found run end ≡ wholeIf b transitions s (found run end)
+      go : (b : Bool) → (b && ltb end (length s)) ≡ false → found run end ≡ wholeIf b own transitions s (found run end)
       go true f = rw (le-leb (length s) end (ltb-false end (length s) f)) refl
       go false f = refl
 
 -- ---- the firings of a run, of which each has two lines, and its rest
 module _ (transitions : ℕ) {count : ℕ} {s : List ℕ} {at : ℕ} {l : List Firing} {i to : ℕ}
-    (w : Reading (firing transitions) count 64 noFiring s at 4 l i to (4 + 2 * i)) where
+    (w : Reading (firing transitions) count 64 noFiring s at 5 l i to (5 + 2 * i)) where
   -- what stands in the lines of the next firing
   abbrev nextFiring : Found Firing
-  nextFiring = firing transitions .read s to (4 + 2 * i)
+  nextFiring = firing transitions .read s to (5 + 2 * i)
 
   pub firings-more : i < count → {wait fired next : ℕ} → oneFiring nextFiring ≡ one-firing.Value wait fired next
-      → Reading (firing transitions) count 64 noFiring s at 4 (set l i (record { wait = wait; fire = fired })) (i + 1) next (4 + 2 * (i + 1))
+      → Reading (firing transitions) count 64 noFiring s at 5 (set l i (record { wait = wait; fire = fired })) (i + 1) next (5 + 2 * (i + 1))
   firings-more h e =
-      let q : 4 + 2 * i + 2 ≡ 4 + 2 * (i + 1) = omega arith in
+      let q : 5 + 2 * i + 2 ≡ 5 + 2 * (i + 1) = omega arith in
       rw q at (reading-more w h (firing-found nextFiring e))
 
-  module _ (whole : Bool) (m : Memory) (d : ℕ) where
+  module _ (whole : Bool) (own : ℕ) (m : Memory) (d : ℕ) where
     -- what is said for what stands in these lines
     abbrev runTold : RunRead
-    runTold = runRead (wholeIf whole transitions s (runFrom m d count (steps transitions count .read s at 4)))
+    runTold = runRead (wholeIf whole own transitions s (runFrom own m d count (steps transitions count .read s at 5)))
 
     pub firing-stopped : i < count → {r : Refusal} → oneFiring nextFiring ≡ one-firing.Refused r → runRead (refused r) ≡ runTold
-    firing-stopped h e = whole-refused whole transitions s ∙ rw (times-stopped w h (firing-refused nextFiring e)) refl
+    firing-stopped h e = whole-refused whole own transitions s ∙ rw (times-stopped w h (firing-refused nextFiring e)) refl
 
     module _ (h : count ≤ i) where
       -- what stands in the line `rest`
       abbrev restRead : Found ℕ
-      restRead = parts (bytes "rest=") .read s to (4 + 2 * count)
+      restRead = parts (bytes "rest=") .read s to (5 + 2 * count)
 
       -- the steps, from that line on
-      rest-left : steps transitions count .read s at 4 ≡ andThen restRead (λ rest end. found (l, rest) end)
+      rest-left : steps transitions count .read s at 5 ≡ andThen restRead (λ rest end. found (l, rest) end)
       rest-left = rw (times-read w h, times-lines w 2 (λ f. refl))
 
       pub rest-stopped : {r : Refusal} → numberLine restRead ≡ Refused r → runRead (refused r) ≡ runTold
-      rest-stopped e = whole-refused whole transitions s ∙ rw (rest-left, number-refused restRead e) refl
+      rest-stopped e = whole-refused whole own transitions s ∙ rw (rest-left, number-refused restRead e) refl
 
       module _ {rest end : ℕ} (e : numberLine restRead ≡ Value rest end) where
         -- the run of these lines
-        read-run : runFrom m d count (steps transitions count .read s at 4) ≡ found (toRun (m, (d, (count, (l, rest))))) end
+        read-run : runFrom own m d count (steps transitions count .read s at 5) ≡ found (toRun (own, (m, (d, (count, (l, rest)))))) end
         read-run = rw (rest-left, number-found restRead e) refl
 
-        pub run-followed : (whole && ltb end (length s)) ≡ true → runRead (refused (Malformed (5 + 2 * count))) ≡ runTold
+        pub run-followed : (whole && ltb end (length s)) ≡ true → runRead (refused (Malformed (6 + 2 * count))) ≡ runTold
         run-followed f =
-            let run = toRun (m, (d, (count, (l, rest)))) in
-            let line : 1 + runCard transitions .lines run ≡ 5 + 2 * count = omega (arith, times-lines w 2 (λ f. refl)) in
-            rw (read-run, ← line) (ap runRead (whole-followed whole transitions s run end f))
+            let run = toRun (own, (m, (d, (count, (l, rest))))) in
+            let line : 1 + runCard own transitions .lines run ≡ 6 + 2 * count = omega (arith, times-lines w 2 (λ f. refl)) in
+            rw (read-run, ← line) (ap runRead (whole-followed whole own transitions s run end f))
 
         -- what was filled in is the run of these lines
-        pub run-whole : {m′ : Memory} {d′ n : ℕ} → (m′ ≡ m) × (d′ ≡ d) × (n ≡ count) → (whole && ltb end (length s)) ≡ false
-            → runRead (found (toRun (m′, (d′, (n, (l, rest))))) end) ≡ runTold
+        pub run-whole : {h′ : ℕ} {m′ : Memory} {d′ n : ℕ} → (h′ ≡ own) × (m′ ≡ m) × (d′ ≡ d) × (n ≡ count) → (whole && ltb end (length s)) ≡ false
+            → runRead (found (toRun (h′, (m′, (d′, (n, (l, rest)))))) end) ≡ runTold
         run-whole p f =
-            let run = toRun (m, (d, (count, (l, rest)))) in
-            rw (p .0, p .1, p .2, read-run) (ap runRead (whole-ended whole transitions s run end f))
+            let run = toRun (own, (m, (d, (count, (l, rest))))) in
+            rw (p .0, p .1, p .2, p .3, read-run) (ap runRead (whole-ended whole own transitions s run end f))
 
 -- ---- the lines `fire` of an order
 module _ (transitions : ℕ) {count : ℕ} {s : List ℕ} {at : ℕ} {l : List ℕ} {i to : ℕ}
-    (w : Reading (fire transitions) count 64 0 s at 3 l i to (3 + i)) where
+    (w : Reading (fire transitions) count 64 0 s at 4 l i to (4 + i)) where
   -- what stands in the next line
   abbrev nextFire : Found ℕ
-  nextFire = fire transitions .read s to (3 + i)
+  nextFire = fire transitions .read s to (4 + i)
 
   pub fires-more : i < count → {fired next : ℕ} → numberLine nextFire ≡ Value fired next
-      → Reading (fire transitions) count 64 0 s at 3 (set l i fired) (i + 1) next (3 + (i + 1))
+      → Reading (fire transitions) count 64 0 s at 4 (set l i fired) (i + 1) next (4 + (i + 1))
   fires-more h e =
-      let q : 3 + i + 1 ≡ 3 + (i + 1) = omega arith in
+      let q : 4 + i + 1 ≡ 4 + (i + 1) = omega arith in
       rw q at (reading-more w h (number-found nextFire e))
 
-  module _ (m : Memory) where
+  module _ (own : ℕ) (m : Memory) where
     -- what is said for what stands in these lines
     abbrev orderTold : OrderRead
-    orderTold = orderRead (ended (orderCard transitions) s (orderFrom m count (times count 64 0 (fire transitions) .read s at 3)))
+    orderTold = orderRead (ended (orderCard own transitions) s (orderFrom own m count (times count 64 0 (fire transitions) .read s at 4)))
 
     pub fire-stopped : i < count → {r : Refusal} → numberLine nextFire ≡ Refused r → orderRead (refused r) ≡ orderTold
     fire-stopped h e = rw (times-stopped w h (number-refused nextFire e))
 
     module _ (h : count ≤ i) where
-      pub order-followed : to < length s → orderRead (refused (Malformed (3 + count))) ≡ orderTold
+      pub order-followed : to < length s → orderRead (refused (Malformed (4 + count))) ≡ orderTold
       order-followed h′ =
-          let line : 1 + orderCard transitions .lines (toOrder (m, (count, l))) ≡ 3 + count = omega (arith, times-lines w 1 (λ f. refl)) in
+          let line : 1 + orderCard own transitions .lines (toOrder (own, (m, (count, l)))) ≡ 4 + count = omega (arith, times-lines w 1 (λ f. refl)) in
           rw (times-read w h, lt-leb (length s) to h′, line)
 
       -- what was filled in is the order of these lines
-      pub order-whole : {m′ : Memory} {n : ℕ} → (m′ ≡ m) × (n ≡ count) → length s ≤ to → orderRead (found (toOrder (m′, (n, l))) to) ≡ orderTold
-      order-whole p h′ = rw (p .0, p .1, times-read w h, le-leb (length s) to h′)
+      pub order-whole : {h′ : ℕ} {m′ : Memory} {n : ℕ} → (h′ ≡ own) × (m′ ≡ m) × (n ≡ count) → length s ≤ to
+          → orderRead (found (toOrder (h′, (m′, (n, l)))) to) ≡ orderTold
+      order-whole p h′ = rw (p .0, p .1, p .2, times-read w h, le-leb (length s) to h′)
 
 -- ---- a run card
 -- the values of the lines put together, at once or one after the other
-run-together : (m : Memory) (d count : ℕ) (f : Found (List Firing × ℕ)) →
-    runFrom m d count f ≡
-    andThen (andThen (andThen (andThen f (λ b end. found (count, b) end)) (λ b end. found (d, b) end)) (λ b end. found (m, b) end))
-    (λ v next. found (toRun v) next)
-run-together m d count (found v next) = refl
-run-together m d count (refused r) = refl
+run-together : (own : ℕ) (m : Memory) (d count : ℕ) (f : Found (List Firing × ℕ)) →
+    runFrom own m d count f ≡
+    runOn own (andThen (andThen (andThen f (λ b end. found (count, b) end)) (λ b end. found (d, b) end)) (λ b end. found (m, b) end))
+run-together own m d count (found v next) = refl
+run-together own m d count (refused r) = refl
 
-module _ (whole : Bool) (transitions : ℕ) (s : List ℕ) where
+module _ (whole : Bool) (own transitions : ℕ) (s : List ℕ) where
+  module _ (start : ℕ) where
+    -- what is said for what stands in the lines behind the sheet
+    abbrev runOnSaid : RunRead
+    runOnSaid = runRead (wholeIf whole own transitions s (runOn own (runLines transitions .read s start 2)))
+
+    pub run-no-memory : {r : Refusal} → memoryLine (memoryRead s start) ≡ memory-line.Refused r → runRead (refused r) ≡ runOnSaid
+    run-no-memory e = whole-refused whole own transitions s ∙ rw (memory-refused (memoryRead s start) e) refl
+
+    module _ {m : Memory} {at : ℕ} (e : memoryLine (memoryRead s start) ≡ memory-line.Value m at) where
+      -- what stands in the line `denominator`
+      abbrev denominatorRead : Found ℕ
+      denominatorRead = keyed (bytes "denominator=") (number (ranged 1 1000)) .read s at 3
+
+      pub run-no-denominator : {r : Refusal} → numberLine denominatorRead ≡ Refused r → runRead (refused r) ≡ runOnSaid
+      run-no-denominator z = whole-refused whole own transitions s ∙ rw (memory-found (memoryRead s start) e, number-refused denominatorRead z) refl
+
+      module _ {d to : ℕ} (z : numberLine denominatorRead ≡ Value d to) where
+        pub run-no-count : {r : Refusal} → numberLine (firings .read s to 4) ≡ Refused r → runRead (refused r) ≡ runOnSaid
+        run-no-count c =
+            whole-refused whole own transitions s
+            ∙ rw (memory-found (memoryRead s start) e, number-found denominatorRead z, number-refused (firings .read s to 4) c) refl
+
+        pub run-read : {count next : ℕ} → numberLine (firings .read s to 4) ≡ Value count next
+            → runRead (wholeIf whole own transitions s (runFrom own m d count (steps transitions count .read s next 5))) ≡ runOnSaid
+        run-read {count} {next} c =
+            rw (memory-found (memoryRead s start) e, number-found denominatorRead z, number-found (firings .read s to 4) c)
+            (rw (run-together own m d count (steps transitions count .read s next 5)))
+
   -- what is said for what stands in all lines
   abbrev runSaid : RunRead
-  runSaid = runRead (runAt whole transitions s)
+  runSaid = runRead (runAt whole own transitions s)
 
-  pub run-no-memory : {r : Refusal} → memoryLine (memoryRead s) ≡ memory-line.Refused r → runRead (refused r) ≡ runSaid
-  run-no-memory e = whole-refused whole transitions s ∙ rw (memory-refused (memoryRead s) e) refl
+  pub run-no-sheet : {r : Refusal} → numberLine (sheetOf own .read s 0 1) ≡ Refused r → runRead (refused r) ≡ runSaid
+  run-no-sheet e = whole-refused whole own transitions s ∙ rw (number-refused (sheetOf own .read s 0 1) e) refl
 
-  module _ {m : Memory} {at : ℕ} (e : memoryLine (memoryRead s) ≡ memory-line.Value m at) where
-    -- what stands in the line `denominator`
-    abbrev denominatorRead : Found ℕ
-    denominatorRead = keyed (bytes "denominator=") (number (ranged 1 1000)) .read s at 2
-
-    pub run-no-denominator : {r : Refusal} → numberLine denominatorRead ≡ Refused r → runRead (refused r) ≡ runSaid
-    run-no-denominator z = whole-refused whole transitions s ∙ rw (memory-found (memoryRead s) e, number-refused denominatorRead z) refl
-
-    module _ {d to : ℕ} (z : numberLine denominatorRead ≡ Value d to) where
-      pub run-no-count : {r : Refusal} → numberLine (firings .read s to 3) ≡ Refused r → runRead (refused r) ≡ runSaid
-      run-no-count c =
-          whole-refused whole transitions s
-          ∙ rw (memory-found (memoryRead s) e, number-found denominatorRead z, number-refused (firings .read s to 3) c) refl
-
-      pub run-read : {count next : ℕ} → numberLine (firings .read s to 3) ≡ Value count next
-          → runRead (wholeIf whole transitions s (runFrom m d count (steps transitions count .read s next 4))) ≡ runSaid
-      run-read {count} {next} c =
-          rw (memory-found (memoryRead s) e, number-found denominatorRead z, number-found (firings .read s to 3) c)
-          (rw (run-together m d count (steps transitions count .read s next 4)))
+  pub run-sheet : {sheet next : ℕ} → numberLine (sheetOf own .read s 0 1) ≡ Value sheet next
+      → runRead (wholeIf whole sheet transitions s (runOn sheet (runLines transitions .read s next 2))) ≡ runSaid
+  run-sheet {sheet} {next} e =
+      let read = number-found (sheetOf own .read s 0 1) e in
+      let together = then-then (runLines transitions .read s next 2) (λ v end. found (own, v) end) (λ v end. found (toRun v) end) in
+      rw (read, sheet-read own sheet s 0 next 1 read) (ap (λ (f : Found Run). runRead (wholeIf whole own transitions s f)) (sym together))
 
 -- ---- an order card
-order-together : (m : Memory) (count : ℕ) (f : Found (List ℕ)) →
-    orderFrom m count f ≡ andThen (andThen (andThen f (λ b end. found (count, b) end)) (λ b end. found (m, b) end)) (λ v next. found (toOrder v) next)
-order-together m count (found v next) = refl
-order-together m count (refused r) = refl
+order-together : (own : ℕ) (m : Memory) (count : ℕ) (f : Found (List ℕ)) →
+    orderFrom own m count f ≡ orderOn own (andThen (andThen f (λ b end. found (count, b) end)) (λ b end. found (m, b) end))
+order-together own m count (found v next) = refl
+order-together own m count (refused r) = refl
 
-module _ (transitions : ℕ) (s : List ℕ) where
+module _ (own transitions : ℕ) (s : List ℕ) where
+  module _ (start : ℕ) where
+    -- what is said for what stands in the lines behind the sheet
+    abbrev orderOnSaid : OrderRead
+    orderOnSaid = orderRead (ended (orderCard own transitions) s (orderOn own (orderLines transitions .read s start 2)))
+
+    pub order-no-memory : {r : Refusal} → memoryLine (memoryRead s start) ≡ memory-line.Refused r → orderRead (refused r) ≡ orderOnSaid
+    order-no-memory e = rw (memory-refused (memoryRead s start) e)
+
+    module _ {m : Memory} {at : ℕ} (e : memoryLine (memoryRead s start) ≡ memory-line.Value m at) where
+      pub order-no-count : {r : Refusal} → numberLine (firings .read s at 3) ≡ Refused r → orderRead (refused r) ≡ orderOnSaid
+      order-no-count c = rw (memory-found (memoryRead s start) e, number-refused (firings .read s at 3) c)
+
+      pub order-read : {count next : ℕ} → numberLine (firings .read s at 3) ≡ Value count next
+          → orderRead (ended (orderCard own transitions) s (orderFrom own m count (times count 64 0 (fire transitions) .read s next 4))) ≡ orderOnSaid
+      order-read {count} {next} c =
+          rw (memory-found (memoryRead s start) e, number-found (firings .read s at 3) c, order-together own m count (times count 64 0 (fire transitions) .read s next 4))
+
   -- what is said for what stands in all lines
   abbrev orderSaid : OrderRead
-  orderSaid = orderRead (alone (orderCard transitions) s)
+  orderSaid = orderRead (alone (orderCard own transitions) s)
 
-  pub order-no-memory : {r : Refusal} → memoryLine (memoryRead s) ≡ memory-line.Refused r → orderRead (refused r) ≡ orderSaid
-  order-no-memory e = rw (memory-refused (memoryRead s) e)
+  pub order-no-sheet : {r : Refusal} → numberLine (sheetOf own .read s 0 1) ≡ Refused r → orderRead (refused r) ≡ orderSaid
+  order-no-sheet e = rw (number-refused (sheetOf own .read s 0 1) e)
 
-  module _ {m : Memory} {at : ℕ} (e : memoryLine (memoryRead s) ≡ memory-line.Value m at) where
-    pub order-no-count : {r : Refusal} → numberLine (firings .read s at 2) ≡ Refused r → orderRead (refused r) ≡ orderSaid
-    order-no-count c = rw (memory-found (memoryRead s) e, number-refused (firings .read s at 2) c)
-
-    pub order-read : {count next : ℕ} → numberLine (firings .read s at 2) ≡ Value count next
-        → orderRead (ended (orderCard transitions) s (orderFrom m count (times count 64 0 (fire transitions) .read s next 3))) ≡ orderSaid
-    order-read {count} {next} c =
-        rw (memory-found (memoryRead s) e, number-found (firings .read s at 2) c, order-together m count (times count 64 0 (fire transitions) .read s next 3))
+  pub order-sheet : {sheet next : ℕ} → numberLine (sheetOf own .read s 0 1) ≡ Value sheet next
+      → orderRead (ended (orderCard sheet transitions) s (orderOn sheet (orderLines transitions .read s next 2))) ≡ orderSaid
+  order-sheet {sheet} {next} e =
+      let read = number-found (sheetOf own .read s 0 1) e in
+      let together = then-then (orderLines transitions .read s next 2) (λ v end. found (own, v) end) (λ v end. found (toOrder v) end) in
+      rw (read, sheet-read own sheet s 0 next 1 read) (ap (λ (f : Found Order). orderRead (ended (orderCard own transitions) s f)) (sym together))

@@ -10,7 +10,7 @@ use Rattle.run.specs.declared.Memory.the-variants.{Intermediate}
 use Rattle.run.specs.declared.Firing.{Firing}
 use Rattle.run.specs.declared.Run.{Run}
 use Rattle.run.specs.declared.Order.{Order}
-use Rattle.run.specs.Run.{noFiring, runCard}
+use Rattle.run.specs.Run.{noFiring, toRun, runCard, toOrder}
 use Rattle.run_card.specs.declared.MemoryLine.{MemoryLine}
 use Rattle.run_card.specs.declared.MemoryLine.the-variants as memory-line
 use Rattle.run_card.specs.declared.OneFiring.{OneFiring}
@@ -30,11 +30,11 @@ oneFiring (refused r) = one-firing.Refused r
 
 -- the run of a refused card
 abbrev pub noRun : Run
-noRun = record { memory = Intermediate; denominator = 0; count = 0; firings = replicate 64 noFiring; rest = 0 }
+noRun = record { sheet = 0; memory = Intermediate; denominator = 0; count = 0; firings = replicate 64 noFiring; rest = 0 }
 
 -- the order of a refused card
 abbrev pub noOrder : Order
-noOrder = record { memory = Intermediate; count = 0; fires = replicate 64 0 }
+noOrder = record { sheet = 0; memory = Intermediate; count = 0; fires = replicate 64 0 }
 
 -- a run
 abbrev pub runRead : Found Run → RunRead
@@ -44,19 +44,24 @@ runRead f = record { read = lineRead f; run = valueOr noRun f }
 abbrev pub orderRead : Found Order → OrderRead
 orderRead f = record { read = lineRead f; order = valueOr noOrder f }
 
--- a run from the values of its first three lines and what the lines behind them say
-abbrev pub runFrom : Memory → ℕ → ℕ → Found (List Firing × ℕ) → Found Run
-runFrom memory denominator count f =
-    andThen f (λ v next. found (record { memory = memory; denominator = denominator; count = count; firings = v .0; rest = v .1 }) next)
+-- a run from its sheet and what the lines behind that say, and from the values of its first four lines
+abbrev pub runOn : ℕ → Found (Memory × (ℕ × (ℕ × (List Firing × ℕ)))) → Found Run
+runOn sheet f = andThen f (λ v next. found (toRun (sheet, v)) next)
+
+abbrev pub runFrom : ℕ → Memory → ℕ → ℕ → Found (List Firing × ℕ) → Found Run
+runFrom sheet memory denominator count f = andThen f (λ v next. found (toRun (sheet, (memory, (denominator, (count, v))))) next)
 
 -- a run card: the whole input, so that nothing may follow it, or in front of others
-abbrev pub wholeIf : Bool → ℕ → List ℕ → Found Run → Found Run
-wholeIf true transitions s f = ended (runCard transitions) s f
-wholeIf false transitions s f = f
+abbrev pub wholeIf : Bool → ℕ → ℕ → List ℕ → Found Run → Found Run
+wholeIf true own transitions s f = ended (runCard own transitions) s f
+wholeIf false own transitions s f = f
 
-abbrev pub runAt : Bool → ℕ → List ℕ → Found Run
-runAt whole transitions s = wholeIf whole transitions s (front (runCard transitions) s)
+abbrev pub runAt : Bool → ℕ → ℕ → List ℕ → Found Run
+runAt whole own transitions s = wholeIf whole own transitions s (front (runCard own transitions) s)
 
--- an order from the values of its first two lines and what the lines behind them say
-abbrev pub orderFrom : Memory → ℕ → Found (List ℕ) → Found Order
-orderFrom memory count f = andThen f (λ l next. found (record { memory = memory; count = count; fires = l }) next)
+-- an order from its sheet and what the lines behind that say, and from the values of its first three lines
+abbrev pub orderOn : ℕ → Found (Memory × (ℕ × List ℕ)) → Found Order
+orderOn sheet f = andThen f (λ v next. found (toOrder (sheet, v)) next)
+
+abbrev pub orderFrom : ℕ → Memory → ℕ → Found (List ℕ) → Found Order
+orderFrom sheet memory count f = andThen f (λ l next. found (toOrder (sheet, (memory, (count, l)))) next)

@@ -18,9 +18,9 @@ ghost use Rattle.reply.specs.Respond.{Responded};
 ghost use Rattle.text.specs.Key.{bytes};
 ghost use Rattle.form.specs.Form.{keyed, exactly, times, ended, alone, refused};
 ghost use Rattle.form.specs.Code.{behind};
-ghost use Rattle.run.specs.Run.{memory, memoryText, fire, firing, noFiring, steps, toRun, runCard, orderCard};
+ghost use Rattle.run.specs.Run.{memory, memoryText, fire, firing, noFiring, steps, runLines, toRun, runCard, orderLines, orderCard};
 ghost use Rattle.cards.specs.Cards.{readRun, readOrder, runChecked, orderChecked, runText, orderText};
-ghost use Rattle.run_card.specs.Code.{memoryLine, oneFiring, runRead, orderRead, runFrom, wholeIf, runAt, orderFrom};
+ghost use Rattle.run_card.specs.Code.{memoryLine, oneFiring, runRead, orderRead, runOn, runFrom, wholeIf, runAt, orderOn, orderFrom};
 
 // The memory rule of a line and the position behind the line, or why there is none.
 enum MemoryLine {
@@ -34,8 +34,9 @@ enum OneFiring {
     Refused(Refusal),
 }
 
-// The values of the first three lines of a run card.
+// The values of the first four lines of a run card.
 struct Heading {
+    sheet: u32,
     memory: Memory,
     denominator: u32,
     count: usize,
@@ -118,6 +119,7 @@ fn refused_run(r: Refusal) -> RunRead
     RunRead {
         read: LineRead::Stopped(r),
         run: Run {
+            sheet: 0,
             memory: Memory::Intermediate,
             denominator: 0,
             count: 0,
@@ -129,11 +131,12 @@ fn refused_run(r: Refusal) -> RunRead
 
 // A run of which the heading is read.
 fn unread_run(head: Heading) -> Run
-    ensures { λ r. ⌜ r ≡ toRun (head .memory, (head .denominator, (head .count, (replicate 64 noFiring, 0)))) ⌝ }
+    ensures { λ r. ⌜ r ≡ toRun (head .sheet, (head .memory, (head .denominator, (head .count, (replicate 64 noFiring, 0))))) ⌝ }
 {
     let none = Firing { wait: 0, fire: 0 };
     let memory = head.memory;
     Run {
+        sheet: head.sheet,
         memory,
         denominator: head.denominator,
         count: head.count,
@@ -145,15 +148,15 @@ fn unread_run(head: Heading) -> Run
 // A run from its heading and the lines behind that; nothing may follow them where they are to be the whole input.
 fn run_from(s: &[u8], at: usize, transitions: usize, head: Heading, whole: bool) -> RunRead
     requires { ⌜ head .count ≤ 64 ⌝ }
-    ensures { λ r. ⌜ r ≡ runRead (wholeIf whole transitions (now (s .entry))
-        (runFrom (head .memory) (head .denominator) (head .count) (steps transitions (head .count) .read (now (s .entry)) at 4))) ⌝ }
+    ensures { λ r. ⌜ r ≡ runRead (wholeIf whole (head .sheet) transitions (now (s .entry))
+        (runFrom (head .sheet) (head .memory) (head .denominator) (head .count) (steps transitions (head .count) .read (now (s .entry)) at 5))) ⌝ }
 {
     let count = head.count;
     let mut run = unread_run(head);
     let mut to = at;
     let mut i: usize = 0;
     while i < count {
-        let f = one_firing(s, to, transitions, 4 + 2 * i);
+        let f = one_firing(s, to, transitions, 5 + 2 * i);
         match f {
             OneFiring::Refused(r) => return refused_run(r),
             OneFiring::Value { wait, fire, next } => {
@@ -163,12 +166,12 @@ fn run_from(s: &[u8], at: usize, transitions: usize, head: Heading, whole: bool)
             }
         }
     }
-    let n = form::number_line(s, to, b"rest=", 0, 10000000, 4 + 2 * count);
+    let n = form::number_line(s, to, b"rest=", 0, 10000000, 5 + 2 * count);
     match n {
         NumberLine::Refused(r) => refused_run(r),
         NumberLine::Value { value, next } => {
             if whole & (next < s.len()) {
-                return refused_run(Refusal::Malformed(5 + 2 * count));
+                return refused_run(Refusal::Malformed(6 + 2 * count));
             }
             run.rest = value;
             RunRead {
@@ -179,29 +182,31 @@ fn run_from(s: &[u8], at: usize, transitions: usize, head: Heading, whole: bool)
     }
 }
 
-// Reads a run card of a net with so many transitions: the whole input, or the front of it.
-fn run_lines(s: &[u8], transitions: usize, whole: bool) -> RunRead
-    ensures { λ r. ⌜ r ≡ runRead (runAt whole transitions (now (s .entry))) ⌝ }
+// The lines of a run card behind its sheet.
+fn run_on_sheet(s: &[u8], at: usize, sheet: u32, transitions: usize, whole: bool) -> RunRead
+    ensures { λ r. ⌜ r ≡
+        runRead (wholeIf whole sheet transitions (now (s .entry)) (runOn sheet (runLines transitions .read (now (s .entry)) at 2))) ⌝ }
 {
-    let m = memory_line(s, 0, 1);
+    let m = memory_line(s, at, 2);
     match m {
         MemoryLine::Refused(r) => refused_run(r),
         MemoryLine::Value {
             memory,
             next: at_denominator,
         } => {
-            let d = form::number_line(s, at_denominator, b"denominator=", 1, 1000, 2);
+            let d = form::number_line(s, at_denominator, b"denominator=", 1, 1000, 3);
             match d {
                 NumberLine::Refused(r) => refused_run(r),
                 NumberLine::Value {
                     value: denominator,
                     next: at_firings,
                 } => {
-                    let n = form::number_line(s, at_firings, b"firings=", 0, 64, 3);
+                    let n = form::number_line(s, at_firings, b"firings=", 0, 64, 4);
                     match n {
                         NumberLine::Refused(r) => refused_run(r),
                         NumberLine::Value { value: count, next } => {
                             let head = Heading {
+                                sheet,
                                 memory,
                                 denominator,
                                 count: count as usize,
@@ -215,11 +220,24 @@ fn run_lines(s: &[u8], transitions: usize, whole: bool) -> RunRead
     }
 }
 
-// Reads a run card of a net with so many transitions, behind which nothing may follow.
-pub fn run_card(s: &[u8], transitions: usize) -> RunRead
-    ensures { λ r. ⌜ r ≡ runRead (alone (runCard transitions) (now (s .entry))) ⌝ }
+// Reads a run card of a net on a sheet and with so many transitions: the whole input, or the front of it.
+fn run_lines(s: &[u8], own: u32, transitions: usize, whole: bool) -> RunRead
+    ensures { λ r. ⌜ r ≡ runRead (runAt whole own transitions (now (s .entry))) ⌝ }
 {
-    run_lines(s, transitions, true)
+    let n = form::sheet_line(s, 0, own, 1);
+    match n {
+        NumberLine::Refused(r) => refused_run(r),
+        NumberLine::Value { value: sheet, next } => {
+            run_on_sheet(s, next, sheet, transitions, whole)
+        }
+    }
+}
+
+// Reads a run card of a net on a sheet and with so many transitions, behind which nothing may follow.
+pub fn run_card(s: &[u8], own: u32, transitions: usize) -> RunRead
+    ensures { λ r. ⌜ r ≡ runRead (alone (runCard own transitions) (now (s .entry))) ⌝ }
+{
+    run_lines(s, own, transitions, true)
 }
 
 // What stands for an order whose card is refused.
@@ -229,6 +247,7 @@ fn refused_order(r: Refusal) -> OrderRead
     OrderRead {
         read: LineRead::Stopped(r),
         order: Order {
+            sheet: 0,
             memory: Memory::Intermediate,
             count: 0,
             fires: [0u32; 64],
@@ -236,14 +255,22 @@ fn refused_order(r: Refusal) -> OrderRead
     }
 }
 
-// An order from the values of its first two lines and the lines behind them, behind which nothing may follow.
-fn order_from(s: &[u8], at: usize, transitions: usize, memory: Memory, count: usize) -> OrderRead
+// An order from the values of its first three lines and the lines behind them, behind which nothing may follow.
+fn order_from(
+    s: &[u8],
+    at: usize,
+    sheet: u32,
+    transitions: usize,
+    memory: Memory,
+    count: usize,
+) -> OrderRead
     requires { ⌜ count ≤ 64 ⌝ }
     ensures { λ r. ⌜ r ≡
-        orderRead (ended (orderCard transitions) (now (s .entry))
-        (orderFrom memory count (times count 64 0 (fire transitions) .read (now (s .entry)) at 3))) ⌝ }
+        orderRead (ended (orderCard sheet transitions) (now (s .entry))
+        (orderFrom sheet memory count (times count 64 0 (fire transitions) .read (now (s .entry)) at 4))) ⌝ }
 {
     let mut order = Order {
+        sheet,
         memory,
         count,
         fires: [0u32; 64],
@@ -251,7 +278,7 @@ fn order_from(s: &[u8], at: usize, transitions: usize, memory: Memory, count: us
     let mut to = at;
     let mut i: usize = 0;
     while i < count {
-        let f = form::listed_line(s, to, b"fire=", transitions as u64, 3 + i);
+        let f = form::listed_line(s, to, b"fire=", transitions as u64, 4 + i);
         match f {
             NumberLine::Refused(r) => return refused_order(r),
             NumberLine::Value { value, next } => {
@@ -262,7 +289,7 @@ fn order_from(s: &[u8], at: usize, transitions: usize, memory: Memory, count: us
         }
     }
     if to < s.len() {
-        return refused_order(Refusal::Malformed(3 + count));
+        return refused_order(Refusal::Malformed(4 + count));
     }
     OrderRead {
         read: LineRead::Next(to),
@@ -270,25 +297,37 @@ fn order_from(s: &[u8], at: usize, transitions: usize, memory: Memory, count: us
     }
 }
 
-// Reads an order card of a net with so many transitions, behind which nothing may follow.
-pub fn order_card(s: &[u8], transitions: usize) -> OrderRead
-    ensures { λ r. ⌜ r ≡ orderRead (alone (orderCard transitions) (now (s .entry))) ⌝ }
+// The lines of an order card behind its sheet, behind which nothing may follow.
+fn order_on_sheet(s: &[u8], at: usize, sheet: u32, transitions: usize) -> OrderRead
+    ensures { λ r. ⌜ r ≡
+        orderRead (ended (orderCard sheet transitions) (now (s .entry)) (orderOn sheet (orderLines transitions .read (now (s .entry)) at 2))) ⌝ }
 {
-    let m = memory_line(s, 0, 1);
+    let m = memory_line(s, at, 2);
     match m {
         MemoryLine::Refused(r) => refused_order(r),
         MemoryLine::Value {
             memory,
             next: at_firings,
         } => {
-            let n = form::number_line(s, at_firings, b"firings=", 0, 64, 2);
+            let n = form::number_line(s, at_firings, b"firings=", 0, 64, 3);
             match n {
                 NumberLine::Refused(r) => refused_order(r),
                 NumberLine::Value { value: count, next } => {
-                    order_from(s, next, transitions, memory, count as usize)
+                    order_from(s, next, sheet, transitions, memory, count as usize)
                 }
             }
         }
+    }
+}
+
+// Reads an order card of a net on a sheet and with so many transitions, behind which nothing may follow.
+pub fn order_card(s: &[u8], own: u32, transitions: usize) -> OrderRead
+    ensures { λ r. ⌜ r ≡ orderRead (alone (orderCard own transitions) (now (s .entry))) ⌝ }
+{
+    let n = form::sheet_line(s, 0, own, 1);
+    match n {
+        NumberLine::Refused(r) => refused_order(r),
+        NumberLine::Value { value: sheet, next } => order_on_sheet(s, next, sheet, transitions),
     }
 }
 
@@ -307,11 +346,11 @@ fn check_one_firing(f: Firing, transitions: usize, line: usize) -> Checked
 // The firings of a run, as their lines would be checked.
 fn check_all_firings(firings: [Firing; 64], transitions: usize, count: usize) -> Checked
     requires { ⌜ count ≤ 64 ⌝ }
-    ensures { λ r. ⌜ r ≡ exactly count 64 noFiring (firing transitions) .check firings 4 ⌝ }
+    ensures { λ r. ⌜ r ≡ exactly count 64 noFiring (firing transitions) .check firings 5 ⌝ }
 {
     let mut i: usize = 0;
     while i < count {
-        let c = check_one_firing(firings[i], transitions, 4 + 2 * i);
+        let c = check_one_firing(firings[i], transitions, 5 + 2 * i);
         let Checked::Passed = c else {
             return c;
         };
@@ -320,16 +359,20 @@ fn check_all_firings(firings: [Firing; 64], transitions: usize, count: usize) ->
     Checked::Passed
 }
 
-// A run of a net with so many transitions, as its card would be checked.
-pub fn check_run_lines(run: Run, transitions: usize) -> Checked
-    ensures { λ r. ⌜ r ≡ runCard transitions .check run 1 ⌝ }
+// A run of a net on a sheet and with so many transitions, as its card would be checked.
+pub fn check_run_lines(run: Run, own: u32, transitions: usize) -> Checked
+    ensures { λ r. ⌜ r ≡ runCard own transitions .check run 1 ⌝ }
 {
-    let d = form::check_range(run.denominator as u64, 1, 1000, 2);
+    let h = form::check_sheet(run.sheet, own, 1);
+    let Checked::Passed = h else {
+        return h;
+    };
+    let d = form::check_range(run.denominator as u64, 1, 1000, 3);
     let Checked::Passed = d else {
         return d;
     };
     let count = run.count;
-    let n = form::check_range(count as u64, 0, 64, 3);
+    let n = form::check_range(count as u64, 0, 64, 4);
     let Checked::Passed = n else {
         return n;
     };
@@ -338,17 +381,17 @@ pub fn check_run_lines(run: Run, transitions: usize) -> Checked
     let Checked::Passed = f else {
         return f;
     };
-    form::check_range(run.rest as u64, 0, 10000000, 4 + 2 * count)
+    form::check_range(run.rest as u64, 0, 10000000, 5 + 2 * count)
 }
 
 // The fired transitions of an order, as their lines would be checked.
 fn check_all_fires(fires: [u32; 64], transitions: usize, count: usize) -> Checked
     requires { ⌜ count ≤ 64 ⌝ }
-    ensures { λ r. ⌜ r ≡ exactly count 64 0 (fire transitions) .check fires 3 ⌝ }
+    ensures { λ r. ⌜ r ≡ exactly count 64 0 (fire transitions) .check fires 4 ⌝ }
 {
     let mut i: usize = 0;
     while i < count {
-        let c = form::check_listed(fires[i] as u64, transitions as u64, 3 + i);
+        let c = form::check_listed(fires[i] as u64, transitions as u64, 4 + i);
         let Checked::Passed = c else {
             return c;
         };
@@ -357,12 +400,16 @@ fn check_all_fires(fires: [u32; 64], transitions: usize, count: usize) -> Checke
     Checked::Passed
 }
 
-// An order of a net with so many transitions, as its card would be checked.
-fn check_order_lines(order: Order, transitions: usize) -> Checked
-    ensures { λ r. ⌜ r ≡ orderCard transitions .check order 1 ⌝ }
+// An order of a net on a sheet and with so many transitions, as its card would be checked.
+fn check_order_lines(order: Order, own: u32, transitions: usize) -> Checked
+    ensures { λ r. ⌜ r ≡ orderCard own transitions .check order 1 ⌝ }
 {
+    let h = form::check_sheet(order.sheet, own, 1);
+    let Checked::Passed = h else {
+        return h;
+    };
     let count = order.count;
-    let n = form::check_range(count as u64, 0, 64, 2);
+    let n = form::check_range(count as u64, 0, 64, 3);
     let Checked::Passed = n else {
         return n;
     };
@@ -413,12 +460,13 @@ fn put_all_firings(out: &mut [u8], at: usize, firings: [Firing; 64], count: usiz
 
 // The card of a run written to a position; the position behind it.
 pub fn put_run(out: &mut [u8], at: usize, run: Run) -> usize
-    ensures { λ r. ⌜ Puts (now (out .entry)) at (runCard 0 .text run) r (now (out .exit)) ⌝ }
+    ensures { λ r. ⌜ Puts (now (out .entry)) at (runCard 0 0 .text run) r (now (out .exit)) ⌝ }
 {
     let m = run.memory;
     let count = run.count;
     let firings = run.firings;
-    let at_denominator = put_memory_line(&mut *out, at, m);
+    let at_memory = form::put_number_line(&mut *out, at, b"sheet=", run.sheet as u64);
+    let at_denominator = put_memory_line(&mut *out, at_memory, m);
     let at_count = form::put_number_line(
         &mut *out,
         at_denominator,
@@ -446,12 +494,13 @@ fn put_all_fires(out: &mut [u8], at: usize, fires: [u32; 64], count: usize) -> u
 
 // The card of an order written to a position; the position behind it.
 fn put_order(out: &mut [u8], at: usize, order: Order) -> usize
-    ensures { λ r. ⌜ Puts (now (out .entry)) at (orderCard 0 .text order) r (now (out .exit)) ⌝ }
+    ensures { λ r. ⌜ Puts (now (out .entry)) at (orderCard 0 0 .text order) r (now (out .exit)) ⌝ }
 {
     let m = order.memory;
     let count = order.count;
     let fires = order.fires;
-    let at_count = put_memory_line(&mut *out, at, m);
+    let at_memory = form::put_number_line(&mut *out, at, b"sheet=", order.sheet as u64);
+    let at_count = put_memory_line(&mut *out, at_memory, m);
     let at_fires = form::put_number_line(&mut *out, at_count, b"firings=", count as u64);
     put_all_fires(out, at_fires, fires, clipped(count))
 }
@@ -463,7 +512,7 @@ pub fn read_run(net: Net, s: &[u8]) -> RunRead
     let c = net_card::check_net(net);
     match c {
         Checked::Refused(r) => refused_run(r),
-        Checked::Passed => run_card(s, net.transitions),
+        Checked::Passed => run_card(s, net.sheet, net.transitions),
     }
 }
 
@@ -474,7 +523,7 @@ pub fn read_order(net: Net, s: &[u8]) -> OrderRead
     let c = net_card::check_net(net);
     match c {
         Checked::Refused(r) => refused_order(r),
-        Checked::Passed => order_card(s, net.transitions),
+        Checked::Passed => order_card(s, net.sheet, net.transitions),
     }
 }
 
@@ -486,7 +535,7 @@ pub fn check_run(net: Net, run: Run) -> Checked
     let Checked::Passed = c else {
         return c;
     };
-    check_run_lines(run, net.transitions)
+    check_run_lines(run, net.sheet, net.transitions)
 }
 
 // Checks an order of a net, both handed over as values, as their cards would be.
@@ -497,7 +546,7 @@ pub fn check_order(net: Net, order: Order) -> Checked
     let Checked::Passed = c else {
         return c;
     };
-    check_order_lines(order, net.transitions)
+    check_order_lines(order, net.sheet, net.transitions)
 }
 
 // Writes the card of a run of a net, both of which pass their checks. The longest card has fewer than 2,048 bytes.
@@ -531,21 +580,21 @@ pub fn write_order(net: Net, order: Order, out: &mut [u8]) -> Reply
 }
 
 // Reads the run card behind a card of which so much was read, from the part of the input behind that: the whole of it, so that nothing may follow, or its front.
-pub fn run_behind(s: &[u8], read: LineRead, transitions: usize, whole: bool) -> RunRead
-    ensures { λ r. ⌜ r ≡ runRead (behind (runAt whole transitions) (now (s .entry)) read) ⌝ }
+pub fn run_behind(s: &[u8], read: LineRead, own: u32, transitions: usize, whole: bool) -> RunRead
+    ensures { λ r. ⌜ r ≡ runRead (behind (runAt whole own transitions) (now (s .entry)) read) ⌝ }
 {
     match read {
         LineRead::Stopped(why) => refused_run(why),
-        LineRead::Next(_) => run_lines(net_card::remainder(s, read), transitions, whole),
+        LineRead::Next(_) => { run_lines(net_card::remainder(s, read), own, transitions, whole) },
     }
 }
 
 // Reads the order card behind a net card of which so much was read, likewise; nothing may follow it.
-pub fn order_behind(s: &[u8], read: LineRead, transitions: usize) -> OrderRead
-    ensures { λ r. ⌜ r ≡ orderRead (behind (alone (orderCard transitions)) (now (s .entry)) read) ⌝ }
+pub fn order_behind(s: &[u8], read: LineRead, own: u32, transitions: usize) -> OrderRead
+    ensures { λ r. ⌜ r ≡ orderRead (behind (alone (orderCard own transitions)) (now (s .entry)) read) ⌝ }
 {
     match read {
         LineRead::Stopped(why) => refused_order(why),
-        LineRead::Next(_) => order_card(net_card::remainder(s, read), transitions),
+        LineRead::Next(_) => order_card(net_card::remainder(s, read), own, transitions),
     }
 }

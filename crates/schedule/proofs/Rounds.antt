@@ -94,7 +94,7 @@ module _ (r : Run) where
     rounding-small = omega (arith, h .soon, h .within, min-le-right (r .count) 64)
 
     pub rounding-done : {n w : ℕ} → n ≡ min (r .count) 64 → n ≤ i → w ≡ (s + r .rest) / D - s / D
-        → record { memory = r .memory; denominator = 1; count = n; firings = firings; rest = w } ≡ roundedRun r
+        → record { sheet = r .sheet; memory = r .memory; denominator = 1; count = n; firings = firings; rest = w } ≡ roundedRun r
     unfolding roundedRun lastInstant
     rounding-done {n} {w} few l e =
         let last : s ≡ instants (waitsOf fs) (length fs) = h .instant ∙ ap (instants (waitsOf fs)) (omega (arith, h .within, length-firings r)) in
@@ -104,6 +104,6 @@ module _ (r : Run) where
 -- ---- the loop of a timetable
 pub timing-done : (o : Order) (x : List ℕ) {n i : ℕ} {firings : List Firing} → Filling (timedFiring o x) n (replicate 64 noFiring) i firings
     → n ≡ min (o .count) 64 → n ≤ i
-    → record { memory = o .memory; denominator = 1; count = n; firings = firings; rest = 0 } ≡ timedRun o x
+    → record { sheet = o .sheet; memory = o .memory; denominator = 1; count = n; firings = firings; rest = 0 } ≡ timedRun o x
 unfolding timedRun
 timing-done o x h e l = rw (fill-done h l, e) refl

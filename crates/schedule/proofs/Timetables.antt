@@ -152,7 +152,7 @@ module _ (o : Order) (x : List ℕ) (size : length x ≡ suc (length (firesOf o)
       zip-entry (waitsBetween x) (firesOf o) i (omega (arith, same-length, fires-length)) same-length
       ∙ rw (between-entry x i (omega (arith, fires-length)), fires-at i l, add-one i) (ap (λ (w : ℕ). record { wait = w; fire = getD (o .fires) i 0 }) e)
 
-  pub timed-scheduled : timedRun o x ≡ timetableRun (o .memory) (firesOf o) (waitsBetween x)
+  pub timed-scheduled : timedRun o x ≡ timetableRun (o .sheet) (o .memory) (firesOf o) (waitsBetween x)
   unfolding timedRun timetableRun
   timed-scheduled =
       let n = min (o .count) 64 in

@@ -31,11 +31,11 @@ timedFiring o x i = record { wait = gapOf (getD x i 0) (getD x (i + 1) 0); fire 
 unfoldable pub timedRun : Order → List ℕ → Run
 timedRun o x =
     let n = min (o .count) 64 in
-    record { memory = o .memory; denominator = 1; count = n; firings = filled (timedFiring o x) n (replicate 64 noFiring); rest = 0 }
+    record { sheet = o .sheet; memory = o .memory; denominator = 1; count = n; firings = filled (timedFiring o x) n (replicate 64 noFiring); rest = 0 }
 
 -- what stands for a run where there is none
 abbrev pub noRun : Memory → Run
-noRun memory = record { memory = memory; denominator = 1; count = 0; firings = replicate 64 noFiring; rest = 0 }
+noRun memory = record { sheet = 0; memory = memory; denominator = 1; count = 0; firings = replicate 64 noFiring; rest = 0 }
 
 -- the verdict on the windows: the run, or 8
 abbrev pub timetabledBy : Order → Verdict → Timetabled
@@ -53,5 +53,5 @@ timetabled net o = timetabledAfter o (tokens net (firesOf o) (startMarking net) 
 
 -- the timetable of a schedule
 abbrev pub scheduledRun : Order → Scheduled → Timetabled
-scheduledRun o (timed ws) = record { checked = Passed; run = timetableRun (o .memory) (firesOf o) ws }
+scheduledRun o (timed ws) = record { checked = Passed; run = timetableRun (o .sheet) (o .memory) (firesOf o) ws }
 scheduledRun o (unschedulable r) = record { checked = Refused r; run = noRun (o .memory) }

@@ -142,6 +142,7 @@ pub fn rounded_run(run: Run) -> Run
         i += 1;
     }
     Run {
+        sheet: run.sheet,
         memory,
         denominator: 1,
         count,
@@ -179,6 +180,7 @@ fn timetable_run(order: Order, instants: [u64; 65]) -> Run
         i += 1;
     }
     Run {
+        sheet: order.sheet,
         memory,
         denominator: 1,
         count,
@@ -192,6 +194,7 @@ fn no_run(memory: Memory) -> Run
     ensures { λ r. ⌜ r ≡ noRun memory ⌝ }
 {
     Run {
+        sheet: 0,
         memory,
         denominator: 1,
         count: 0,

@@ -66,21 +66,21 @@ unfolding firesOf
 fires-few o = omega (arith, length-first (min (o .count) 64) 0 (o .fires), min-le-right (o .count) 64)
 
 -- ---- a run of the given waits and order
-module _ (memory : Memory) (order waits : List ℕ) (e : length waits ≡ length order) (few : length order ≤ 64) where
-  pub timetable-firings : firingsOf (timetableRun memory order waits) ≡ zipFirings waits order
+module _ (sheet : ℕ) (memory : Memory) (order waits : List ℕ) (e : length waits ≡ length order) (few : length order ≤ 64) where
+  pub timetable-firings : firingsOf (timetableRun sheet memory order waits) ≡ zipFirings waits order
   unfolding firingsOf timetableRun
   timetable-firings = rw (min-eq-left few) (first-pad (length order) 64 noFiring (zipFirings waits order) (length-zip waits order e))
 
-  pub timetable-order : orderOf (firingsOf (timetableRun memory order waits)) ≡ order
+  pub timetable-order : orderOf (firingsOf (timetableRun sheet memory order waits)) ≡ order
   timetable-order = ap orderOf timetable-firings ∙ order-zip waits order e
 
-  pub timetable-waits : waitsOf (firingsOf (timetableRun memory order waits)) ≡ waits
+  pub timetable-waits : waitsOf (firingsOf (timetableRun sheet memory order waits)) ≡ waits
   timetable-waits = ap waitsOf timetable-firings ∙ waits-zip waits order e
 
   -- nothing stands behind its firings
-  pub timetable-clean : (transitions : ℕ) → runCard transitions .clean (timetableRun memory order waits) ≡ timetableRun memory order waits
+  pub timetable-clean : (own transitions : ℕ) → runCard own transitions .clean (timetableRun sheet memory order waits) ≡ timetableRun sheet memory order waits
   unfolding timetableRun
-  timetable-clean transitions = run-clean transitions (timetableRun memory order waits) (zipFirings waits order) (length-zip waits order e) few refl
+  timetable-clean own transitions = run-clean own transitions (timetableRun sheet memory order waits) (zipFirings waits order) (length-zip waits order e) few refl
 
 -- ---- a timing makes a run: firings after waits pass exactly when the waits are a timing
 zip-timing : (net : Net) (restarts : Restart) (D : ℕ) (order waits : List ℕ) → length waits ≡ length order
@@ -88,11 +88,11 @@ zip-timing : (net : Net) (restarts : Restart) (D : ℕ) (order waits : List ℕ)
 zip-timing net restarts D order waits e = rw (order-zip waits order e, waits-zip waits order e) at (run-timing net restarts D (zipFirings waits order))
 
 -- a timing in whole ticks makes an accepted run
-pub timetable-accepted : (net : Net) (restarts : Restart) (memory : Memory) (order waits : List ℕ) → length order ≤ 64 → Timing net restarts 1 order waits
-    → replay net restarts (timetableRun memory order waits) .checked ≡ Passed
+pub timetable-accepted : (net : Net) (restarts : Restart) (sheet : ℕ) (memory : Memory) (order waits : List ℕ) → length order ≤ 64 → Timing net restarts 1 order waits
+    → replay net restarts (timetableRun sheet memory order waits) .checked ≡ Passed
 unfolding replay timetableRun
-timetable-accepted net restarts memory order waits few t =
-    rw (timetable-firings memory order waits (t .complete) few) (zip-timing net restarts 1 order waits (t .complete) .1 t)
+timetable-accepted net restarts sheet memory order waits few t =
+    rw (timetable-firings sheet memory order waits (t .complete) few) (zip-timing net restarts 1 order waits (t .complete) .1 t)
 
 -- a timing under a memory word is a run of the published semantics with these waits and no rest
 pub timings-are-runs : (net : Net) (memory : Memory) (D : ℕ) (order waits : List ℕ) → Timing net (ruleOf (arcsOf net) memory) D order waits
@@ -125,10 +125,10 @@ module _ (r : Run) where
       (first-pad (min (r .count) 64) 64 noFiring (zipFirings (roundedWaits D (waitsOf fs)) (orderOf fs)) count-rounded)
 
   -- nothing stands behind them
-  pub rounded-clean : (transitions : ℕ) → runCard transitions .clean (roundedRun r) ≡ roundedRun r
+  pub rounded-clean : (own transitions : ℕ) → runCard own transitions .clean (roundedRun r) ≡ roundedRun r
   unfolding roundedRun
-  rounded-clean transitions =
-      run-clean transitions (roundedRun r) (zipFirings (roundedWaits D (waitsOf fs)) (orderOf fs)) count-rounded (min-le-right (r .count) 64) refl
+  rounded-clean own transitions =
+      run-clean own transitions (roundedRun r) (zipFirings (roundedWaits D (waitsOf fs)) (orderOf fs)) count-rounded (min-le-right (r .count) 64) refl
 
   pub rounded-order : orderOf (firingsOf (roundedRun r)) ≡ orderOf fs
   rounded-order = ap orderOf rounded-firings ∙ order-zip _ _ rounded-sizes
@@ -195,14 +195,16 @@ rounded-fit D d s [] h = tt
 rounded-fit D d s (w ∷ ws) h = (omega (arith, div-sum-le D d s w, h .0), rounded-fit D d (s + w) ws (h .1))
 
 -- the card of the rounded run passes where the run's does
-pub rounded-checked : (transitions : ℕ) (r : Run) → runCard transitions .check r 1 ≡ Passed → runCard transitions .check (roundedRun r) 1 ≡ Passed
+pub rounded-checked : (sheet transitions : ℕ) (r : Run) → runCard sheet transitions .check r 1 ≡ Passed → runCard sheet transitions .check (roundedRun r) 1 ≡ Passed
 unfolding roundedRun roundedWaits
-rounded-checked transitions r e =
-    let f = run-in-ranges transitions r .0 e in
+rounded-checked sheet transitions r e =
+    let f = run-in-ranges sheet transitions r .0 e in
     let D = r .denominator in
     let fs = firingsOf r in
     let d : 0 < D = f .some-parts in
-    run-in-ranges transitions (roundedRun r) .1 (record {
+    run-in-ranges sheet transitions (roundedRun r) .1 (record {
+      own = f .own;
+      sheet-small = f .sheet-small;
       some-parts = omega arith;
       few-parts = omega arith;
       few = min-le-right (r .count) 64;
@@ -214,19 +216,21 @@ rounded-checked transitions r e =
     })
 
 -- the card of a timetable passes where that of its order does and no wait is too long
-pub timetable-checked : (transitions : ℕ) (o : Order) (memory : Memory) (waits : List ℕ) → orderCard transitions .check o 1 ≡ Passed
+pub timetable-checked : (sheet transitions : ℕ) (o : Order) (memory : Memory) (waits : List ℕ) → orderCard sheet transitions .check o 1 ≡ Passed
     → length waits ≡ length (firesOf o) → ((i : ℕ) → i < length waits → getD waits i 0 ≤ 10000000)
-    → runCard transitions .check (timetableRun memory (firesOf o) waits) 1 ≡ Passed
+    → runCard sheet transitions .check (timetableRun (o .sheet) memory (firesOf o) waits) 1 ≡ Passed
 unfolding timetableRun
-timetable-checked transitions o memory waits e size h =
+timetable-checked sheet transitions o memory waits e size h =
     let order = firesOf o in
-    let f = order-in-ranges transitions o e in
+    let f = order-in-ranges sheet transitions o e in
     let few = fires-few o in
-    run-in-ranges transitions (timetableRun memory order waits) .1 (record {
+    run-in-ranges sheet transitions (timetableRun (o .sheet) memory order waits) .1 (record {
+      own = f .own;
+      sheet-small = f .sheet-small;
       some-parts = omega arith;
       few-parts = omega arith;
       few = few;
-      each = rw (timetable-firings memory order waits size few) (zip-fit transitions waits order (each-of (λ w. w ≤ 10000000) 0 waits h) (f .1));
+      each = rw (timetable-firings (o .sheet) memory order waits size few) (zip-fit transitions waits order (each-of (λ w. w ≤ 10000000) 0 waits h) (f .each));
       rest = omega arith;
     })
 
@@ -246,8 +250,8 @@ module _ (net : Net) (restarts : Restart) (order ws : List ℕ) (e : schedule ne
 
 -- the card of the timetable of an order passes where the order's does
 pub scheduled-checked : (net : Net) (restarts : Restart) (o : Order) (ws : List ℕ) → schedule net restarts (firesOf o) ≡ timed ws
-    → ((t : ℕ) → t < arcsOf net .transitions → transitionAt net t .earliest ≤ 1000) → orderCard (net .transitions) .check o 1 ≡ Passed
-    → runCard (net .transitions) .check (timetableRun (o .memory) (firesOf o) ws) 1 ≡ Passed
+    → ((t : ℕ) → t < arcsOf net .transitions → transitionAt net t .earliest ≤ 1000) → orderCard (net .sheet) (net .transitions) .check o 1 ≡ Passed
+    → runCard (net .sheet) (net .transitions) .check (timetableRun (o .sheet) (o .memory) (firesOf o) ws) 1 ≡ Passed
 scheduled-checked net restarts o ws e h p =
-    timetable-checked (net .transitions) o (o .memory) ws p (scheduled-timing net restarts (firesOf o) ws e .complete)
+    timetable-checked (net .sheet) (net .transitions) o (o .memory) ws p (scheduled-timing net restarts (firesOf o) ws e .complete)
     (scheduled-short net restarts (firesOf o) ws e h (fires-few o))

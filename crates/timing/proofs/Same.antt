@@ -63,4 +63,4 @@ module _ {a b : Net} (same : SameNet a b) (memory : Memory) where
 -- runs that agree in all that counts are rounded to one run
 pub same-rounded : {r q : Run} → SameRun r q → roundedRun r ≡ roundedRun q
 unfolding roundedRun lastInstant
-same-rounded same = rw (same-firings same, same .memory, same .denominator, same .count, same .rest) refl
+same-rounded same = rw (same-firings same, same .sheet, same .memory, same .denominator, same .count, same .rest) refl

@@ -23,10 +23,11 @@ lastInstant r = instants (waitsOf (firingsOf r)) (length (firingsOf r))
 unfoldable pub endInstant : Run → ℕ
 endInstant r = lastInstant r + r .rest
 
--- "Rounding replaces each instant, the end after `rest` included, by its whole part": the memory and the fired transitions stay
+-- "Rounding replaces each instant, the end after `rest` included, by its whole part": the sheet, the memory and the fired transitions stay
 unfoldable pub roundedRun : Run → Run
 roundedRun r =
     record {
+      sheet = r .sheet;
       memory = r .memory;
       denominator = 1;
       count = min (r .count) 64;
@@ -34,7 +35,7 @@ roundedRun r =
       rest = (lastInstant r + r .rest) / r .denominator - lastInstant r / r .denominator;
     }
 
--- "A timetable is the same kind of card, with the order's memory and firings and with `rest=0`"
-unfoldable pub timetableRun : Memory → List ℕ → List ℕ → Run
-timetableRun memory order waits =
-    record { memory = memory; denominator = 1; count = length order; firings = padTo 64 noFiring (zipFirings waits order); rest = 0 }
+-- "A timetable is the same kind of card, with the order's memory and firings and with `rest=0`", and it copies the order's sheet
+unfoldable pub timetableRun : ℕ → Memory → List ℕ → List ℕ → Run
+timetableRun sheet memory order waits =
+    record { sheet = sheet; memory = memory; denominator = 1; count = length order; firings = padTo 64 noFiring (zipFirings waits order); rest = 0 }

@@ -17,7 +17,7 @@ use mir.Facts.{toZ-ofZ, toZ-pos}
 use Rattle.laws.specs.Differences.{difference-less, difference-small}
 use Rattle.reply.specs.declared.Refusal.{Refusal}
 use Rattle.reply.specs.declared.Refusal.the-variants.{Malformed, OutOfRange, LatestBelowEarliest, NoSuchTransition, NotEnabled, TooManyTokens, OutsideInterval}
-use Rattle.reply.specs.declared.Refusal.the-variants.{Untimable, OutputTooShort, OtherOrder}
+use Rattle.reply.specs.declared.Refusal.the-variants.{Untimable, OutputTooShort, OtherOrder, AnotherSheet}
 use Rattle.reply.specs.declared.Reply.{Reply}
 use Rattle.reply.specs.declared.Reply.the-variants.{Written, Refused}
 use Rattle.reply.specs.Refusal.{numberOf, positionOf}
@@ -37,6 +37,7 @@ number-small (OutsideInterval firing) = (omega arith, omega arith)
 number-small (Untimable firing) = (omega arith, omega arith)
 number-small OutputTooShort = (omega arith, omega arith)
 number-small OtherOrder = (omega arith, omega arith)
+number-small (AnotherSheet line) = (omega arith, omega arith)
 
 pub code-small : (r : Refusal) → positionOf r < 65536 → codeOf r < 21 * 65536
 code-small r h = omega (arith, number-small r .1)
@@ -69,6 +70,7 @@ refusalAt number place =
     ∷ Untimable place
     ∷ OutputTooShort
     ∷ OtherOrder
+    ∷ AnotherSheet place
     ∷ []) number OutputTooShort
 
 refusal-back : (r : Refusal) → refusalAt (numberOf r) (positionOf r) ≡ r
@@ -82,6 +84,7 @@ refusal-back (OutsideInterval firing) = refl
 refusal-back (Untimable firing) = refl
 refusal-back OutputTooShort = refl
 refusal-back OtherOrder = refl
+refusal-back (AnotherSheet line) = refl
 
 -- ---- an answer
 pub answer-not-negative : (n : ℕ) → nonNeg (resultOf (Written n)) ≡ true

@@ -31,10 +31,10 @@ struct Workload {
 // Workloads
 
 fn typical_runs() -> Vec<Vec<u8>> {
-    let atomic = paper::run(Memory::Atomic, 2, &[(3, 0), (3, 0), (0, 1)], 0);
-    let resting = paper::run(Memory::Intermediate, 2, &[], 3);
-    let waiting = paper::run(Memory::Intermediate, 1, &[(3, 0), (2, 1), (0, 2)], 0);
-    let free = paper::run(Memory::Intermediate, 1, &[(1, 0), (0, 1), (2, 2)], 0);
+    let atomic = paper::run(1, Memory::Atomic, 2, &[(3, 0), (3, 0), (0, 1)], 0);
+    let resting = paper::run(1, Memory::Intermediate, 2, &[], 3);
+    let waiting = paper::run(2, Memory::Intermediate, 1, &[(3, 0), (2, 1), (0, 2)], 0);
+    let free = paper::run(3, Memory::Intermediate, 1, &[(1, 0), (0, 1), (2, 2)], 0);
     [
         (paper::net_a(), atomic),
         (paper::net_a(), resting),
@@ -55,7 +55,10 @@ fn typical_orders() -> Vec<Vec<u8>> {
         (paper::net_b(), Memory::Atomic, &[0, 1, 2]),
     ]
     .into_iter()
-    .map(|(net, memory, fire)| gen::join(&(net, paper::order(memory, fire))))
+    .map(|(net, memory, fire)| {
+        let order = paper::order(net.sheet, memory, fire);
+        gen::join(&(net, order))
+    })
     .collect()
 }
 
@@ -63,24 +66,26 @@ fn typical_pairs() -> Vec<Vec<u8>> {
     let order = |waits: [u64; 3], fire: [usize; 3]| -> Vec<(u64, usize)> {
         waits.into_iter().zip(fire).collect()
     };
-    let atomic =
-        |denominator, waits| paper::run(Memory::Atomic, denominator, &order(waits, [0, 0, 1]), 0);
-    let free = |denominator, waits, rest| {
+    let atomic = |denominator, waits| {
+        let firings = order(waits, [0, 0, 1]);
+        paper::run(1, Memory::Atomic, denominator, &firings, 0)
+    };
+    let free = |sheet, denominator, waits, rest| {
         let firings = order(waits, [0, 1, 2]);
-        paper::run(Memory::Intermediate, denominator, &firings, rest)
+        paper::run(sheet, Memory::Intermediate, denominator, &firings, rest)
     };
     [
         (paper::net_a(), atomic(1, [1, 1, 1]), atomic(2, [3, 3, 0])),
         (paper::net_a(), atomic(2, [2, 2, 2]), atomic(3, [3, 3, 3])),
         (
             paper::net_b(),
-            free(1, [3, 2, 0], 0),
-            free(4, [13, 7, 0], 0),
+            free(2, 1, [3, 2, 0], 0),
+            free(2, 4, [13, 7, 0], 0),
         ),
         (
             paper::net_c(),
-            free(1, [1, 0, 2], 0),
-            free(10, [10, 0, 20], 1),
+            free(3, 1, [1, 0, 2], 0),
+            free(3, 10, [10, 0, 20], 1),
         ),
     ]
     .iter()
@@ -92,6 +97,9 @@ fn several(make: impl FnMut() -> Vec<u8>) -> Vec<Vec<u8>> {
     std::iter::repeat_with(make).take(8).collect()
 }
 
+/// The sheet of the longest cards.
+const SHEET: u64 = 9999;
+
 /// The largest net with every transition alike.
 fn uniform(tokens: u64, earliest: u64, latest: Option<u64>, weight: u64) -> Net {
     let transition = Transition {
@@ -101,6 +109,7 @@ fn uniform(tokens: u64, earliest: u64, latest: Option<u64>, weight: u64) -> Net 
         give: vec![weight; 16],
     };
     Net {
+        sheet: SHEET,
         start: vec![tokens; 16],
         transitions: vec![transition; 32],
     }
@@ -109,7 +118,7 @@ fn uniform(tokens: u64, earliest: u64, latest: Option<u64>, weight: u64) -> Net 
 /// 64 firings of the last transition with the longest waits, behind the longest net card.
 fn longest_run(memory: Memory) -> (Net, Run) {
     let firings = vec![(10_000_000, 31); 64];
-    let run = paper::run(memory, 1, &firings, 10_000_000);
+    let run = paper::run(SHEET, memory, 1, &firings, 10_000_000);
     (uniform(255, 100, None, 255), run)
 }
 
@@ -126,14 +135,14 @@ fn longest_pair() -> (Net, Run, Run) {
 /// Every firing takes tokens of two producers from every place.
 fn longest_process() -> (Net, Run) {
     let firings: Vec<(u64, usize)> = (0..64).map(|at| (at, 31 - at as usize % 20)).collect();
-    let run = paper::run(Memory::Intermediate, 1, &firings, 0);
+    let run = paper::run(SHEET, Memory::Intermediate, 1, &firings, 0);
     (uniform(255, 0, None, 200), run)
 }
 
 /// Every wait has four digits and every transition number two.
 fn longest_timetable() -> (Net, Order) {
     let fire: Vec<usize> = (0..64).map(|at| 31 - at % 20).collect();
-    let order = paper::order(Memory::Intermediate, &fire);
+    let order = paper::order(SHEET, Memory::Intermediate, &fire);
     (uniform(255, 1000, Some(1000), 255), order)
 }
 

@@ -15,7 +15,7 @@ const RANK: usize = 4;
 
 fn inputs(operation: usize) -> Vec<Vec<u8>> {
     let rng = &mut Rng::new(64);
-    let mut inputs = vec![Vec::new(), b"places=16\n".to_vec()];
+    let mut inputs = vec![Vec::new(), b"sheet=1\nplaces=16\n".to_vec()];
     for _ in 0..100 {
         inputs.push(match operation {
             TIMETABLE => gen::join(&gen::large_order(rng)),

@@ -4,7 +4,7 @@ use super::{net, Rng, Size};
 use crate::naive;
 
 /// The start and end of each line, its byte 10 not included.
-fn lines(bytes: &[u8]) -> Vec<(usize, usize)> {
+pub fn lines(bytes: &[u8]) -> Vec<(usize, usize)> {
     let mut lines = Vec::new();
     let mut start = 0;
     for (at, &byte) in bytes.iter().enumerate() {
@@ -19,7 +19,7 @@ fn lines(bytes: &[u8]) -> Vec<(usize, usize)> {
     lines
 }
 
-const NUMBERS: [&str; 32] = [
+const NUMBERS: [&str; 34] = [
     "",
     "0",
     "00",
@@ -38,6 +38,8 @@ const NUMBERS: [&str; 32] = [
     "256",
     "1000",
     "1001",
+    "9999",
+    "10000",
     "10000000",
     "10000001",
     "99999999",
@@ -54,7 +56,7 @@ const NUMBERS: [&str; 32] = [
     "1e3",
 ];
 
-const WORDS: [&str; 29] = [
+const WORDS: [&str; 31] = [
     "inf",
     "INF",
     "in",
@@ -75,6 +77,8 @@ const WORDS: [&str; 29] = [
     "off",
     "=",
     ",",
+    "sheet=0",
+    "sheet=1",
     "places=1",
     "start=0",
     "memory=atomic",
@@ -126,8 +130,17 @@ pub fn damage(rng: &mut Rng, bytes: &mut Vec<u8>) {
             }
         }
         9 | 27 | 28 => bytes.extend_from_slice(
-            rng.pick(&["\n", "x", "0", "rest=0\n", "fire=0\n", "places=1\n", "\0"])
-                .as_bytes(),
+            rng.pick(&[
+                "\n",
+                "x",
+                "0",
+                "rest=0\n",
+                "fire=0\n",
+                "places=1\n",
+                "sheet=1\n",
+                "\0",
+            ])
+            .as_bytes(),
         ),
         10 => drop(bytes.splice(value..end, rng.pick(&NUMBERS).bytes())),
         11 => drop(bytes.splice(value..end, rng.pick(&WORDS).bytes())),
@@ -210,7 +223,8 @@ fn one_item(rng: &mut Rng, bytes: &mut Vec<u8>, lines: &[(usize, usize)]) {
 
 /// Sets the number of one known line to an end of its range or one past it.
 fn boundary(rng: &mut Rng, bytes: &mut Vec<u8>) {
-    let keys: [(&str, [&str; 3]); 9] = [
+    let keys: [(&str, [&str; 3]); 10] = [
+        ("sheet=", ["0", "9999", "10000"]),
         ("places=", ["0", "16", "17"]),
         ("transitions=", ["0", "32", "33"]),
         ("start=", ["0", "255", "256"]),
@@ -286,7 +300,7 @@ pub fn junk(rng: &mut Rng) -> Vec<u8> {
         0 => Vec::new(),
         1 => (0..length).map(|_| rng.draw() as u8).collect(),
         2 => (0..length)
-            .map(|_| rng.pick(b"0123456789,=\n\nplacestrinf"))
+            .map(|_| rng.pick(b"0123456789,=\n\nsheetplacestrinf"))
             .collect(),
         3 => net(rng, Size::Small).card().into_bytes(),
         4 => {

@@ -1,8 +1,11 @@
 //! Orders that are hard to time.
 
-use super::{memory, timetable, Rng};
+use super::{memory, sheet, timetable, Rng};
 use crate::naive::{Memory, Net, Order, Transition};
 use crate::Outcome;
+
+/// The sheet of the nets and orders as they are built here.
+const SHEET: u64 = 1;
 
 /// An order that takes many steps to time, or to be found untimable, often late.
 pub fn hard_order(rng: &mut Rng) -> (Net, Order) {
@@ -18,6 +21,8 @@ pub fn hard_order(rng: &mut Rng) -> (Net, Order) {
     if rng.one_in(3) {
         delay(&mut net, &mut order);
     }
+    net.sheet = sheet(rng);
+    order.sheet = net.sheet;
     (net, order)
 }
 
@@ -66,6 +71,7 @@ fn drift(period: u64, gain: u64, slack: u64, memory: Memory) -> (Net, Order) {
     let (take_0, give_0) = train(0);
     let (take_1, give_1) = train(1);
     let net = Net {
+        sheet: SHEET,
         start: vec![1, 0, 1],
         transitions: vec![
             transition(period, Some(period), take_0, give_0),
@@ -76,6 +82,7 @@ fn drift(period: u64, gain: u64, slack: u64, memory: Memory) -> (Net, Order) {
     };
     let fire = [3, 2].into_iter().chain([0, 1].into_iter().cycle());
     let order = Order {
+        sheet: SHEET,
         memory,
         fire: fire.take(64).collect(),
     };
@@ -94,11 +101,13 @@ fn ring(rng: &mut Rng) -> (Net, Order) {
         transitions.push(transition(earliest, latest, weight.clone(), weight));
     }
     let net = Net {
+        sheet: SHEET,
         start: vec![1; trains],
         transitions,
     };
     let fire = (0..64).map(|at| at % trains + trains * rng.index(5));
     let order = Order {
+        sheet: SHEET,
         memory: Memory::Intermediate,
         fire: fire.collect(),
     };
@@ -111,6 +120,7 @@ fn slow(rng: &mut Rng) -> (Net, Order) {
     let period = rng.pick(&[1000, 1000, 999, 990]);
     let latest = rng.pick(&[None, Some(period), Some(1000)]);
     let net = Net {
+        sheet: SHEET,
         start: vec![1, 1],
         transitions: vec![
             transition(period, latest, unit(2, 0, 1), unit(2, 0, 1)),
@@ -126,7 +136,12 @@ fn slow(rng: &mut Rng) -> (Net, Order) {
             *fire = rng.index(3);
         }
     }
-    (net, Order { memory, fire })
+    let order = Order {
+        sheet: SHEET,
+        memory,
+        fire,
+    };
+    (net, order)
 }
 
 /// What a zigzag is made of.
@@ -192,10 +207,12 @@ fn zigzag(shape: &Zigzag) -> (Net, Order) {
     }
     fire.truncate(64);
     let net = Net {
+        sheet: SHEET,
         start: vec![1, 1, 1, 0],
         transitions,
     };
     let order = Order {
+        sheet: SHEET,
         memory: Memory::Intermediate,
         fire,
     };
@@ -278,10 +295,12 @@ pub fn most_sweeps() -> (Net, Order) {
         transition(earliest, latest, weight.clone(), weight)
     });
     let net = Net {
+        sheet: SHEET,
         start: vec![1; TRAINS],
         transitions: transitions.collect(),
     };
     let order = Order {
+        sheet: SHEET,
         memory: Memory::Intermediate,
         fire: FIRE.to_vec(),
     };

@@ -82,6 +82,7 @@ fn scaled(run: &Run, factor: u64) -> Run {
         .iter()
         .map(|&(wait, fire)| (wait * factor, fire));
     Run {
+        sheet: run.sheet,
         memory: run.memory,
         denominator: run.denominator * factor,
         firings: waits.take_while(|&(wait, _)| wait <= MOST_PARTS).collect(),

@@ -9,6 +9,7 @@ pub const FIRINGS: usize = 64;
 /// The `latest` of a transition without an upper bound.
 pub const UNBOUNDED: u32 = u32::MAX;
 
+const MOST_SHEET: u32 = 9_999;
 const MOST_TOKENS: u32 = 255;
 const MOST_TICKS: u32 = 1_000;
 const MOST_PARTS: u32 = 10_000_000;
@@ -32,6 +33,7 @@ pub struct Transition {
 }
 
 pub struct Net {
+    pub sheet: u32,
     pub places: usize,
     pub transitions: usize,
     pub start: Tokens,
@@ -39,6 +41,7 @@ pub struct Net {
 }
 
 pub struct Run {
+    pub sheet: u32,
     pub memory: Memory,
     pub denominator: u32,
     pub firings: usize,
@@ -48,6 +51,7 @@ pub struct Run {
 }
 
 pub struct Order {
+    pub sheet: u32,
     pub memory: Memory,
     pub firings: usize,
     pub fire: [u8; FIRINGS],
@@ -63,6 +67,7 @@ impl Net {
             give: [0; PLACES],
         };
         Net {
+            sheet: 0,
             places: 0,
             transitions: 0,
             start: [0; PLACES],
@@ -73,6 +78,7 @@ impl Net {
     /// Fills an empty net from the card at the front of the input; the bytes behind it.
     pub fn read<'a>(&mut self, input: &'a [u8]) -> Result<&'a [u8], i64> {
         let mut lines = Lines::new(input);
+        self.sheet = lines.number(b"sheet=", 0, MOST_SHEET)?;
         self.places = lines.number(b"places=", 1, PLACES as u32)? as usize;
         self.transitions = lines.number(b"transitions=", 1, TRANSITIONS as u32)? as usize;
         for tokens in &mut self.start[..self.places] {
@@ -92,6 +98,7 @@ impl Run {
     #[inline(always)]
     pub fn empty() -> Self {
         Run {
+            sheet: 0,
             memory: Memory::Atomic,
             denominator: 1,
             firings: 0,
@@ -117,6 +124,7 @@ impl Run {
 
     #[inline(always)]
     fn read_lines(&mut self, lines: &mut Lines, net: &Net) -> Result<(), i64> {
+        self.sheet = lines.sheet_of(net)?;
         self.memory = lines.memory()?;
         self.denominator = lines.number(b"denominator=", 1, 1_000)?;
         self.firings = lines.number(b"firings=", 0, FIRINGS as u32)? as usize;
@@ -133,6 +141,7 @@ impl Order {
     #[inline(always)]
     pub fn empty() -> Self {
         Order {
+            sheet: 0,
             memory: Memory::Atomic,
             firings: 0,
             fire: [0; FIRINGS],
@@ -141,6 +150,7 @@ impl Order {
 
     pub fn read(&mut self, input: &[u8], net: &Net) -> Result<(), i64> {
         let mut lines = Lines::new(input);
+        self.sheet = lines.sheet_of(net)?;
         self.memory = lines.memory()?;
         self.firings = lines.number(b"firings=", 0, FIRINGS as u32)? as usize;
         for fire in &mut self.fire[..self.firings] {
@@ -191,6 +201,16 @@ impl<'a> Lines<'a> {
             return Err(refused(2, self.line));
         }
         Ok(value)
+    }
+
+    /// Reads the sheet of a run or an order, which must be its net's.
+    #[inline(always)]
+    fn sheet_of(&mut self, net: &Net) -> Result<u32, i64> {
+        let sheet = self.number(b"sheet=", 0, MOST_SHEET)?;
+        if sheet != net.sheet {
+            return Err(refused(11, self.line));
+        }
+        Ok(sheet)
     }
 
     #[inline(always)]

@@ -14,7 +14,7 @@ use text::Text;
 use timing::Timing;
 
 const REPLAY_LONGEST: usize = 580;
-const RUN_LONGEST: usize = 1_467;
+const RUN_LONGEST: usize = 1_478;
 const PROCESS_LONGEST: usize = 22_000;
 const RANK_LONGEST: usize = 26;
 
@@ -85,7 +85,7 @@ fn round_outcome(input: &[u8], out: &mut [u8]) -> Result<i64, i64> {
     replayed(&net, &run)?;
 
     let mut text = Text::<RUN_LONGEST>::new();
-    run_head(&mut text, run.memory, run.firings);
+    run_head(&mut text, run.sheet, run.memory, run.firings);
     let (mut instant, mut ticks) = (0, 0);
     for (&wait, &fire) in run.wait.iter().zip(&run.fire).take(run.firings) {
         instant += wait;
@@ -126,7 +126,7 @@ fn timetable_outcome(input: &[u8], out: &mut [u8]) -> Result<i64, i64> {
     }
 
     let mut text = Text::<RUN_LONGEST>::new();
-    run_head(&mut text, order.memory, order.firings);
+    run_head(&mut text, order.sheet, order.memory, order.firings);
     for (pair, &fire) in timing.instants().windows(2).zip(fire) {
         firing_lines(&mut text, pair[1] - pair[0], fire);
     }
@@ -254,7 +254,9 @@ fn replayed<'n>(net: &'n Net, run: &Run) -> Result<(State<'n>, u32), i64> {
 }
 
 /// The lines of a whole-tick run card before its firings.
-fn run_head(text: &mut Text<RUN_LONGEST>, memory: Memory, firings: usize) {
+fn run_head(text: &mut Text<RUN_LONGEST>, sheet: u32, memory: Memory, firings: usize) {
+    text.push(b"sheet=");
+    text.number(sheet, b'\n');
     match memory {
         Memory::Intermediate => text.push(b"memory=intermediate\ndenominator=1\nfirings="),
         Memory::Atomic => text.push(b"memory=atomic\ndenominator=1\nfirings="),

@@ -11,7 +11,7 @@ use Rattle.engine.proofs.respond_run.Tie as tie
 
 wrote : (k : tie.After-put-run2) → let s = k .before .before .before .before in
     let a = s .args in
-    Wrote (replicate 2048 0) 0 (runCard 0 .text (a .run)) (k .put-run2 .result) (k .put-run2 .last .0)
+    Wrote (replicate 2048 0) 0 (runCard 0 0 .text (a .run)) (k .put-run2 .result) (k .put-run2 .last .0)
 wrote k = let s = k .before .before .before .before in wrote-puts (omega (arith, s .pre)) (k .put-run2 .ensures)
 
 returns : tie.Need-returns

@@ -11,7 +11,7 @@ returns c =
     let n = e .before .before in
     let a = n .before .before .before .args in
     c .refused-net .ensures
-    ∙ starts-stopped (a .places) (a .transitions) (a .s .now) (a .at) (n .start-lines .result) (n .start-lines .last .1 .1 .1 .0) (n .start-lines .ensures)
+    ∙ starts-stopped (a .head) (a .s .now) (a .at) (n .start-lines .result) (n .start-lines .last .1 .1 .1 .0) (n .start-lines .ensures)
     (e .read .given .1)
 
 returns-2 : tie.Need-returns-2
@@ -20,7 +20,7 @@ returns-2 c =
     let n = e .before .before in
     let b = n .before .before .before in
     c .table-lines .ensures
-    ∙ starts-found (b .args .places) (b .args .transitions) (b .args .s .now) (b .args .at) (n .start-lines .result) (n .start-lines .last .1 .1 .1 .0)
+    ∙ starts-found (b .args .head) (b .args .s .now) (b .args .at) (n .start-lines .result) (n .start-lines .last .1 .1 .1 .0)
     (n .start-lines .ensures) (b .pre .1) (e .read2 .given .1)
 
 pub net-lines-spec : {M : Type 1} → statement M

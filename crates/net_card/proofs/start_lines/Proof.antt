@@ -12,7 +12,7 @@ use Rattle.net_card.proofs.start_lines.Statement.{statement}
 use Rattle.net_card.proofs.start_lines.Tie as tie
 
 abbrev Inv-loop : tie.InvT-loop
-Inv-loop s at places start₀ to₀ i₀ t11 start to i = Reading startLine places 16 0 s at 3 start i to (3 + i) × (t11 ≡ bytes "start=")
+Inv-loop s at places start₀ to₀ i₀ t11 start to i = Reading startLine places 16 0 s at 4 start i to (4 + i) × (t11 ≡ bytes "start=")
 
 abbrev μ-loop : tie.MeasureT-loop
 μ-loop s at places start₀ to₀ i₀ t11 start to i = places - i
@@ -29,7 +29,7 @@ returns c =
 
 -- the line that was read
 line-read : (c : tie.After-n2 Inv-loop μ-loop) → let l = c .before .before .before .before in
-    numberLine (startLine .read (l .before .before .before .args .s .now) (l .before .loop .to) (3 + l .before .loop .i))
+    numberLine (startLine .read (l .before .before .before .args .s .now) (l .before .loop .to) (4 + l .before .loop .i))
     ≡ Value (c .n2 .given .0 .0) (c .n2 .given .0 .1 .0)
 line-read c =
     let n = c .before .before in

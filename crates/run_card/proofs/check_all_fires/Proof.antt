@@ -9,13 +9,13 @@ use Rattle.run_card.proofs.check_all_fires.Statement.{statement}
 use Rattle.run_card.proofs.check_all_fires.Tie as tie
 
 abbrev Inv-loop : tie.InvT-loop
-Inv-loop transitions count fires i₀ i = Checking (fire transitions) count 0 fires 3 i (3 + i)
+Inv-loop transitions count fires i₀ i = Checking (fire transitions) count 0 fires 4 i (4 + i)
 
 abbrev μ-loop : tie.MeasureT-loop
 μ-loop transitions count fires i₀ i = count - i
 
 loop-holds : tie.Need-loop-holds Inv-loop μ-loop
-loop-holds c = let a = c .args in checking-start (fire (a .transitions)) (a .count) 0 (a .t1) 3
+loop-holds c = let a = c .args in checking-start (fire (a .transitions)) (a .count) 0 (a .t1) 4
 
 returns : tie.Need-returns Inv-loop μ-loop
 returns c =

@@ -9,13 +9,13 @@ use Rattle.run_card.proofs.check_all_firings.Statement.{statement}
 use Rattle.run_card.proofs.check_all_firings.Tie as tie
 
 abbrev Inv-loop : tie.InvT-loop
-Inv-loop transitions count firings i₀ i = Checking (firing transitions) count noFiring firings 4 i (4 + 2 * i)
+Inv-loop transitions count firings i₀ i = Checking (firing transitions) count noFiring firings 5 i (5 + 2 * i)
 
 abbrev μ-loop : tie.MeasureT-loop
 μ-loop transitions count firings i₀ i = count - i
 
 loop-holds : tie.Need-loop-holds Inv-loop μ-loop
-loop-holds c = let a = c .args in checking-start (firing (a .transitions)) (a .count) noFiring (a .t1) 4
+loop-holds c = let a = c .args in checking-start (firing (a .transitions)) (a .count) noFiring (a .t1) 5
 
 returns : tie.Need-returns Inv-loop μ-loop
 returns c =

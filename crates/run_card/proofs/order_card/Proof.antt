@@ -1,45 +1,23 @@
--- The lines are read one behind the other, and each way out is one case of that; a count that was read is at most 64.
+-- The sheet is read, and what stands behind it; each way out is one case of that.
 use mathlib.Core.Path.{sym, _∙_}
 use borrow.Author.Needs.{needs}
-use Rattle.run_card.proofs.Read.{order-no-memory, order-no-count, order-read, count-few}
+use Rattle.run_card.proofs.Read.{order-no-sheet, order-sheet}
 use Rattle.run_card.proofs.order_card.Statement.{statement}
 use Rattle.run_card.proofs.order_card.Tie as tie
 
-order-from-requires : tie.Need-order-from-requires
-order-from-requires c κs =
-    let k = c .before .before .before in
-    let g = k .before .before .before in
-    let a = g .before .before .before .before .args in
-    count-few (a .s .now) (g .m2 .given .0 .1 .0) 2 (sym (k .number-line .ensures) ∙ c .before .n2 .given .1)
-
 returns : tie.Need-returns
 returns c =
-    let m = c .before .before .before .before in
-    let a = m .before .before .args in
-    c .refused-order .ensures ∙ order-no-memory (a .transitions) (a .s .now) (sym (m .memory-line .ensures) ∙ c .before .before .m .given .1)
+    let n = c .before .before .before .before in
+    let a = n .before .before .args in
+    c .refused-order .ensures ∙ order-no-sheet (a .own) (a .transitions) (a .s .now) (sym (n .sheet-line .ensures) ∙ c .before .before .n .given .1)
 
 returns-2 : tie.Need-returns-2
 returns-2 c =
-    let k = c .before .before .before .before in
-    let g = k .before .before .before in
-    let m = g .before .before in
-    let a = m .before .before .args in
-    c .refused-order2 .ensures ∙
-    order-no-count (a .transitions) (a .s .now) (sym (m .memory-line .ensures) ∙ g .m2 .given .1)
-    (sym (k .number-line .ensures) ∙ c .before .before .n .given .1)
-
-returns-3 : tie.Need-returns-3
-returns-3 c =
-    let k = c .before .before .before .before in
-    let g = k .before .before .before in
-    let m = g .before .before in
-    let a = m .before .before .args in
-    c .order-from .ensures ∙
-    order-read (a .transitions) (a .s .now) (sym (m .memory-line .ensures) ∙ g .m2 .given .1)
-    (sym (k .number-line .ensures) ∙ c .before .before .n2 .given .1)
+    let n = c .before .before .before .before in
+    let a = n .before .before .args in
+    c .order-on-sheet .ensures ∙ order-sheet (a .own) (a .transitions) (a .s .now) (sym (n .sheet-line .ensures) ∙ c .before .before .n2 .given .1)
 
 pub order-card-spec : {M : Type 1} → statement M
 order-card-spec =
     tie.close
-    (tie.spec (λ c κs. search needs) (λ c. search needs) (λ c κs. search needs) (λ c. search needs) (λ c. search needs) (λ c κs. search needs)
-    (λ c. search needs) (λ c κs. search needs) (λ c. search needs) (λ c. search needs) order-from-requires returns returns-2 returns-3)
+    (tie.spec (λ c κs. search needs) (λ c. search needs) (λ c κs. search needs) (λ c. search needs) (λ c κs. search needs) returns returns-2)

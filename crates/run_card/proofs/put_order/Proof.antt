@@ -9,9 +9,13 @@ returns c =
     let f = c .before .before in
     let n = f .before .before .before .before .before in
     let m = n .before .before .before .before .before in
-    rw (← f .before .clipped .ensures) (puts-then (m .put-memory-line .ensures) (puts-then (n .put-number-line .ensures) (f .put-all-fires .ensures)))
+    let h = m .before .before .before .before in
+    rw (← f .before .clipped .ensures)
+    (puts-then (h .put-number-line .ensures)
+    (puts-then (m .put-memory-line .ensures) (puts-then (n .put-number-line2 .ensures) (f .put-all-fires .ensures))))
 
 pub put-order-spec : {M : Type 1} → statement M
 put-order-spec =
     tie.close
-    (tie.spec (λ c κs. search needs) (λ c. search needs) (λ c κs. search needs) (λ c κs. search needs) (λ c κs. search needs) (λ c. search needs) returns)
+    (tie.spec (λ c. search needs) (λ c. search needs) (λ c κs. search needs) (λ c κs. search needs) (λ c. search needs) (λ c κs. search needs)
+    (λ c κs. search needs) (λ c κs. search needs) (λ c. search needs) returns)

@@ -1,4 +1,5 @@
--- The loop keeps the state of the reader (`Reading`) and the values of the first lines; a refused line refuses all, and so do bytes behind the last line of a whole input.
+-- The loop keeps the state of the reader (`Reading`) and the values of the first lines; a refused line refuses all, and so do bytes behind the last line
+-- of a whole input.
 use Prim.Native.Nat.{_+_, _*_, _-_}
 use mathlib.Core.Path.{_≡_, refl, sym, ap, _∙_}
 use borrow.Author.Needs.{needs}
@@ -11,8 +12,8 @@ use Rattle.run_card.proofs.run_from.Tie as tie
 
 abbrev Inv-loop : tie.InvT-loop
 Inv-loop s at transitions whole count run₀ to₀ i₀ t20 run to i =
-    Reading (firing transitions) count 64 noFiring s at 4 (run .firings) i to (4 + 2 * i)
-    × ((run .memory ≡ run₀ .memory) × (run .denominator ≡ run₀ .denominator) × (run .count ≡ run₀ .count))
+    Reading (firing transitions) count 64 noFiring s at 5 (run .firings) i to (5 + 2 * i)
+    × ((run .sheet ≡ run₀ .sheet) × (run .memory ≡ run₀ .memory) × (run .denominator ≡ run₀ .denominator) × (run .count ≡ run₀ .count))
 
 abbrev μ-loop : tie.MeasureT-loop
 μ-loop s at transitions whole count run₀ to₀ i₀ t20 run to i = count - i
@@ -21,8 +22,8 @@ loop-holds : tie.Need-loop-holds Inv-loop μ-loop
 loop-holds c =
     let t = c .before .before in
     let a = t .args in
-    let first = reading-start (firing (a .transitions)) (a .head .count) 64 noFiring (a .s .now) (a .at) 4 (t .pre) in
-    (rw (c .unread-run .ensures) first, (refl, refl, refl))
+    let first = reading-start (firing (a .transitions)) (a .head .count) 64 noFiring (a .s .now) (a .at) 5 (t .pre) in
+    (rw (c .unread-run .ensures) first, (refl, refl, refl, refl))
 
 returns : tie.Need-returns Inv-loop μ-loop
 returns c =
@@ -30,7 +31,7 @@ returns c =
     let b = f .before .before in
     let a = b .before .before .before .args in
     c .refused-run .ensures
-    ∙ firing-stopped (a .transitions) (b .loop .inv .0) (a .whole) (a .head .memory) (a .head .denominator) (f .before .loop-test .taken)
+    ∙ firing-stopped (a .transitions) (b .loop .inv .0) (a .whole) (a .head .sheet) (a .head .memory) (a .head .denominator) (f .before .loop-test .taken)
     (sym (f .one-firing .ensures) ∙ c .before .before .f .given .1)
 
 loop-again : tie.Need-loop-again Inv-loop μ-loop
@@ -47,7 +48,7 @@ returns-2 c =
     let l = n .before .before in
     let a = l .before .before .before .before .args in
     c .refused-run3 .ensures
-    ∙ run-followed (a .transitions) (l .before .loop .inv .0) (a .whole) (a .head .memory) (a .head .denominator) (l .loop-test .left)
+    ∙ run-followed (a .transitions) (l .before .loop .inv .0) (a .whole) (a .head .sheet) (a .head .memory) (a .head .denominator) (l .loop-test .left)
     (sym (n .number-line .ensures) ∙ e .n2 .given .1) (c .before .if1 .taken)
 
 returns-3 : tie.Need-returns-3 Inv-loop μ-loop
@@ -57,7 +58,7 @@ returns-3 c =
     let l = n .before .before in
     let a = l .before .before .before .before .args in
     c .refused-run2 .ensures
-    ∙ rest-stopped (a .transitions) (l .before .loop .inv .0) (a .whole) (a .head .memory) (a .head .denominator) (l .loop-test .left)
+    ∙ rest-stopped (a .transitions) (l .before .loop .inv .0) (a .whole) (a .head .sheet) (a .head .memory) (a .head .denominator) (l .loop-test .left)
     (sym (n .number-line .ensures) ∙ e .n .given .1)
 
 returns-4 : tie.Need-returns-4 Inv-loop μ-loop
@@ -68,9 +69,13 @@ returns-4 c =
     let a = l .before .before .before .before .args in
     let v = l .before .loop .inv in
     let made = l .before .before .unread-run .ensures in
-    run-whole (a .transitions) (v .0) (a .whole) (a .head .memory) (a .head .denominator) (l .loop-test .left)
-    (sym (n .number-line .ensures) ∙ e .n2 .given .1)
-    (v .1 .0 ∙ ap (λ (r : Run). r .memory) made, v .1 .1 ∙ ap (λ (r : Run). r .denominator) made, v .1 .2 ∙ ap (λ (r : Run). r .count) made) (c .if1 .left)
+    run-whole (a .transitions) (v .0) (a .whole) (a .head .sheet) (a .head .memory) (a .head .denominator) (l .loop-test .left)
+    (sym (n .number-line .ensures) ∙ e .n2 .given .1) (
+      v .1 .0 ∙ ap (λ (r : Run). r .sheet) made,
+      v .1 .1 ∙ ap (λ (r : Run). r .memory) made,
+      v .1 .2 ∙ ap (λ (r : Run). r .denominator) made,
+      v .1 .3 ∙ ap (λ (r : Run). r .count) made,
+    ) (c .if1 .left)
 
 pub run-from-spec : {M : Type 1} → statement M
 run-from-spec =

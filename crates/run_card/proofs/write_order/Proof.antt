@@ -8,7 +8,7 @@ use Rattle.reply.specs.declared.Checked.the-variants.{Passed}
 use Rattle.reply.proofs.Laws.{check-refused}
 use Rattle.form.proofs.Answers.{card-answered}
 use Rattle.run.specs.Run.{orderCard}
-use Rattle.cards.specs.Cards.{orderChecked}
+use Rattle.cards.specs.Cards.{cardOf, orderChecked}
 use Rattle.run_card.proofs.Write.{order-written}
 use Rattle.run_card.proofs.write_order.Statement.{statement}
 use Rattle.run_card.proofs.write_order.Tie as tie
@@ -18,7 +18,7 @@ passes t = sym (t .before .before .check-order .ensures) ∙ t .enum-told .given
 
 -- the card stands at the front of the buffer
 wrote : (k : tie.After-put-order) → let a = k .before .before .before .before .before .before .args in
-    Wrote (replicate 1024 0) 0 (orderCard (a .net .transitions) .text (a .order)) (k .put-order .result) (k .put-order .last .0)
+    Wrote (replicate 1024 0) 0 (cardOf orderCard (a .net) .text (a .order)) (k .put-order .result) (k .put-order .last .0)
 wrote k =
     let t = k .before .before in
     let a = t .before .before .before .before .args in
@@ -28,7 +28,7 @@ returns : tie.Need-returns
 returns c =
     let k = c .before .before .before in
     let a = k .before .before .args in
-    check-refused (orderCard (a .net .transitions) .text (a .order)) (a .out .now) (sym (k .check-order .ensures) ∙ c .before .c .given .1)
+    check-refused (cardOf orderCard (a .net) .text (a .order)) (a .out .now) (sym (k .check-order .ensures) ∙ c .before .c .given .1)
 
 returns-2 : tie.Need-returns-2
 returns-2 c =

@@ -8,7 +8,7 @@ use Rattle.reply.specs.declared.Checked.the-variants.{Passed}
 use Rattle.reply.proofs.Laws.{check-refused}
 use Rattle.form.proofs.Answers.{card-answered}
 use Rattle.run.specs.Run.{runCard}
-use Rattle.cards.specs.Cards.{runChecked}
+use Rattle.cards.specs.Cards.{cardOf, runChecked}
 use Rattle.run_card.proofs.Write.{run-written}
 use Rattle.run_card.proofs.write_run.Statement.{statement}
 use Rattle.run_card.proofs.write_run.Tie as tie
@@ -18,7 +18,7 @@ passes t = sym (t .before .before .check-run .ensures) ∙ t .enum-told .given .
 
 -- the card stands at the front of the buffer
 wrote : (k : tie.After-put-run) → let a = k .before .before .before .before .before .before .args in
-    Wrote (replicate 2048 0) 0 (runCard (a .net .transitions) .text (a .run)) (k .put-run .result) (k .put-run .last .0)
+    Wrote (replicate 2048 0) 0 (cardOf runCard (a .net) .text (a .run)) (k .put-run .result) (k .put-run .last .0)
 wrote k =
     let t = k .before .before in
     let a = t .before .before .before .before .args in
@@ -28,7 +28,7 @@ returns : tie.Need-returns
 returns c =
     let k = c .before .before .before in
     let a = k .before .before .args in
-    check-refused (runCard (a .net .transitions) .text (a .run)) (a .out .now) (sym (k .check-run .ensures) ∙ c .before .c .given .1)
+    check-refused (cardOf runCard (a .net) .text (a .run)) (a .out .now) (sym (k .check-run .ensures) ∙ c .before .c .given .1)
 
 returns-2 : tie.Need-returns-2
 returns-2 c =
