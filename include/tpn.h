@@ -1,7 +1,7 @@
-/* Timed runs of weak time Petri nets: the five operations on cards.
+/* Timed runs of weak time Petri nets: the six operations on cards.
  *
- * Each reads a net card and, right behind it, a run card (tpn_timetable: an order card; tpn_rank: two run cards, X's and then Y's) from input, and
- * writes its answer to the front of output.
+ * Each reads a net card and, right behind it, a run card (tpn_timetable: an order card; tpn_rank: two run cards, X's and then Y's; tpn_join: a
+ * second net card and a line `pairs`) from input, and writes its answer to the front of output.
  * The line `sheet` in front of a run or order card has the sheet of the net; the run card that tpn_round and tpn_timetable answer has it too.
  * The line `memory` of a run or order card is one of the words intermediate, atomic and carry.
  * A result from 0 up is the number of bytes written; the bytes of output behind them stay as they were.
@@ -24,8 +24,9 @@ extern "C" {
 #define TPN_TIMETABLE_MAX 2048
 #define TPN_PROCESS_MAX 22001
 #define TPN_RANK_MAX 32
+#define TPN_JOIN_MAX 5632
 
-/* Refusals. Place: the line within its card from 1 for 1 to 4 and 11, the firing from 1 for 5 to 8, 0 for 9 and 10. */
+/* Refusals. Place: the line within its card from 1 for 1 to 4 and 11, the firing from 1 for 5 to 8, 0 for 9, 10 and 12 to 14. */
 enum {
     TPN_MALFORMED = 1,
     TPN_OUT_OF_RANGE = 2,
@@ -37,7 +38,10 @@ enum {
     TPN_UNTIMABLE = 8,
     TPN_OUTPUT_TOO_SHORT = 9,
     TPN_OTHER_ORDER = 10,
-    TPN_ANOTHER_SHEET = 11
+    TPN_ANOTHER_SHEET = 11,
+    TPN_BAD_PAIRS = 12,
+    TPN_UNEQUAL_STARTS = 13,
+    TPN_TOO_LARGE = 14
 };
 
 int64_t tpn_replay(const uint8_t *input, size_t input_length, uint8_t *output, size_t output_length);
@@ -48,6 +52,10 @@ int64_t tpn_process(const uint8_t *input, size_t input_length, uint8_t *output, 
 /* The answer: a line `rank=` with -1 (X stands before Y), 0 or 1, and a line `lead=` with the lead of X over Y at the instant that decides, negative
  * if X is earlier, in ticks over the product of the two denominators. */
 int64_t tpn_rank(const uint8_t *input, size_t input_length, uint8_t *output, size_t output_length);
+
+/* The line `pairs=` has the word none, or place numbers joined by commas, two by two the first net's place and the second's. The answer: the card of
+ * the joined net, on the first's sheet, with the first's places, then the second's unpaired ones, and the first's transitions, then the second's. */
+int64_t tpn_join(const uint8_t *input, size_t input_length, uint8_t *output, size_t output_length);
 
 /* The number and the place of a refusal; 0 for an answer. */
 static inline int tpn_number(int64_t result) { return result < 0 ? (int)(-result / 65536) : 0; }

@@ -12,6 +12,7 @@ pub const ENGINE: Engine = Engine {
         linked::timetable,
         linked::process,
         linked::rank,
+        linked::join,
     ],
 };
 
@@ -48,6 +49,7 @@ mod linked {
             output_len: usize,
         ) -> i64;
         fn tpn_rank(input: *const u8, input_len: usize, output: *mut u8, output_len: usize) -> i64;
+        fn tpn_join(input: *const u8, input_len: usize, output: *mut u8, output_len: usize) -> i64;
     }
 
     #[inline(always)]
@@ -81,5 +83,9 @@ mod linked {
 
     pub fn rank(input: &[u8], output: &mut [u8]) -> i64 {
         call(tpn_rank, input, output)
+    }
+
+    pub fn join(input: &[u8], output: &mut [u8]) -> i64 {
+        call(tpn_join, input, output)
     }
 }

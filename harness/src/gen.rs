@@ -1,10 +1,12 @@
-//! Seeded inputs for the five operations: nets with runs, orders and pairs of runs that are accepted
-//! often, near misses, orders that are hard to time, cards on another sheet, damaged cards and junk.
+//! Seeded inputs for the six operations: nets with runs, orders, pairs of runs or a second net that are
+//! accepted often, near misses, orders that are hard to time, cards on another sheet, damaged cards and
+//! junk.
 //!
 //! An input depends on its seed and index only, so each can be made again alone.
 
 mod damage;
 mod hard;
+mod join;
 mod pair;
 mod rng;
 mod sheet;
@@ -15,8 +17,9 @@ use std::collections::BTreeSet;
 
 pub use damage::{damage, junk};
 pub use hard::{bends_to_the_last, drift_to_the_last, hard_order, most_sweeps};
+pub use join::{large_nets, list_line, nets, nets_apart, other_nets, two_nets, Nets};
 pub use pair::{
-    beside_timetable, join_pair, large_pair, near_pair, other_pair, pair, runs_of_one_order,
+    beside_timetable, large_pair, near_pair, other_pair, pair, runs_of_one_order, with_pair,
 };
 pub use rng::Rng;
 pub use sheet::stray_sheet;
@@ -32,53 +35,63 @@ pub fn input(seed: u64, index: u64) -> Input {
     let mut rng = Rng::new(Rng::new(seed).draw() ^ index.wrapping_mul(0xd134_2543_de82_ef95));
     let rng = &mut rng;
     let (kind, bytes) = match rng.below(100) {
-        0..=16 => ("run", text_of_run(rng, false)),
-        17..=26 => ("near run", text_of_run(rng, true)),
-        27..=33 => ("order", text_of_order(rng)),
-        34..=40 => ("tight order", join(&tight_order(rng))),
-        41..=45 => ("hard order", join(&hard_order(rng))),
-        46..=56 => ("pair", join_pair(&pair(rng))),
-        57..=61 => ("other pair", join_pair(&other_pair(rng))),
-        62..=66 => ("near pair", join_pair(&near_pair(rng))),
-        67..=74 => {
-            let mut bytes = any_cards(rng);
-            if rng.one_in(6) {
-                damage(rng, &mut bytes);
-            }
-            for _ in 0..rng.pick(&[1, 1, 1, 2]) {
-                stray_sheet(rng, &mut bytes);
-            }
-            ("stray sheet", bytes)
-        }
-        75..=96 => {
-            let mut bytes = any_cards(rng);
-            for _ in 0..rng.pick(&[1, 1, 1, 1, 2, 3]) {
-                damage(rng, &mut bytes);
-            }
-            ("damaged", bytes)
-        }
+        0..=13 => ("run", text_of_run(rng, false)),
+        14..=22 => ("near run", text_of_run(rng, true)),
+        23..=28 => ("order", text_of_order(rng)),
+        29..=34 => ("tight order", with_order(&tight_order(rng))),
+        35..=38 => ("hard order", with_order(&hard_order(rng))),
+        39..=47 => ("pair", with_pair(&pair(rng))),
+        48..=51 => ("other pair", with_pair(&other_pair(rng))),
+        52..=55 => ("near pair", with_pair(&near_pair(rng))),
+        56..=63 => ("join", two_nets(&nets(rng))),
+        64..=68 => ("other join", two_nets(&other_nets(rng))),
+        69..=71 => ("join line", list_line(rng)),
+        72..=78 => ("stray sheet", text_of_stray(rng)),
+        79..=97 => ("damaged", text_of_damaged(rng)),
         _ => ("junk", junk(rng)),
     };
     Input { kind, bytes }
 }
 
-/// Cards of a run, an order or a pair of runs, mostly accepted.
+/// Cards of a run, an order, a pair of runs or two nets, mostly accepted.
 fn any_cards(rng: &mut Rng) -> Vec<u8> {
-    match rng.below(4) {
+    match rng.below(5) {
         0 => text_of_order(rng),
-        1 if rng.one_in(3) => join_pair(&near_pair(rng)),
-        1 => join_pair(&pair(rng)),
+        1 if rng.one_in(3) => with_pair(&near_pair(rng)),
+        1 => with_pair(&pair(rng)),
+        2 if rng.one_in(4) => two_nets(&other_nets(rng)),
+        2 => two_nets(&nets(rng)),
         _ => text_of_run(rng, false),
     }
 }
 
+/// Cards with a sheet line put wrong.
+fn text_of_stray(rng: &mut Rng) -> Vec<u8> {
+    let mut bytes = any_cards(rng);
+    if rng.one_in(6) {
+        damage(rng, &mut bytes);
+    }
+    for _ in 0..rng.pick(&[1, 1, 1, 2]) {
+        stray_sheet(rng, &mut bytes);
+    }
+    bytes
+}
+
+fn text_of_damaged(rng: &mut Rng) -> Vec<u8> {
+    let mut bytes = any_cards(rng);
+    for _ in 0..rng.pick(&[1, 1, 1, 1, 2, 3]) {
+        damage(rng, &mut bytes);
+    }
+    bytes
+}
+
 /// A net card with an order card behind it.
-pub fn join((net, order): &(Net, Order)) -> Vec<u8> {
+pub fn with_order((net, order): &(Net, Order)) -> Vec<u8> {
     (net.card() + &order.card()).into_bytes()
 }
 
 /// A net card with a run card behind it.
-pub fn join_run((net, run): &(Net, Run)) -> Vec<u8> {
+pub fn with_run((net, run): &(Net, Run)) -> Vec<u8> {
     (net.card() + &run.card()).into_bytes()
 }
 
@@ -183,6 +196,11 @@ fn weights(rng: &mut Rng, places: usize, full: bool) -> (Vec<u64>, Vec<u64>) {
 
 pub fn net(rng: &mut Rng, size: Size) -> Net {
     let (places, transitions) = sizes(rng, size);
+    net_of(rng, places, transitions)
+}
+
+/// A net with so many places and transitions.
+pub fn net_of(rng: &mut Rng, places: usize, transitions: usize) -> Net {
     let style = rng.below(8);
     let scale = rng.pick(&[2, 5, 20, 1000]);
     let start = (0..places).map(|_| match style {
@@ -305,7 +323,7 @@ fn text_of_run(rng: &mut Rng, near: bool) -> Vec<u8> {
             miss(rng, &mut net, &mut run, &state);
         }
     }
-    join_run(&(net, run))
+    with_run(&(net, run))
 }
 
 /// Turns an accepted run into one that may just not be.
@@ -430,7 +448,7 @@ fn text_of_order(rng: &mut Rng) -> Vec<u8> {
     if rng.one_in(10) {
         order.memory = memory(rng);
     }
-    join(&(net, order))
+    with_order(&(net, order))
 }
 
 /// An order whose windows are drawn as tight as one of its timings allows, or a tick tighter.

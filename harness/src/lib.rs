@@ -1,6 +1,6 @@
 //! Comparison and benchmark harness for the engine that marks timed runs of weak time Petri nets.
 //!
-//! An [`Engine`] is five functions over lent bytes. Three of them are known: [`PLAIN`], written for
+//! An [`Engine`] is six functions over lent bytes. Three of them are known: [`PLAIN`], written for
 //! speed; [`NAIVE`], written to be obviously right; and [`engine::ENGINE`], the one under test.
 
 pub mod engine;
@@ -9,16 +9,16 @@ pub mod naive;
 pub mod paper;
 pub mod plain;
 
-/// One operation: a net card and a run card, an order card or two run cards in, the answer into the
-/// output.
+/// One operation: a net card and a run card, an order card, two run cards or a second net card and its
+/// pairs in, the answer into the output.
 ///
 /// A result from 0 up is the number of bytes written, a negative one `-(number * 65_536 + place)`.
 pub type Operation = fn(&[u8], &mut [u8]) -> i64;
 
 /// The names of the operations, in the order of [`Engine::operations`].
-pub const OPERATIONS: [&str; 5] = ["replay", "round", "timetable", "process", "rank"];
+pub const OPERATIONS: [&str; 6] = ["replay", "round", "timetable", "process", "rank", "join"];
 
-/// An implementation of the five operations.
+/// An implementation of the six operations.
 #[derive(Clone, Copy)]
 pub struct Engine {
     pub name: &'static str,
@@ -33,6 +33,7 @@ pub const PLAIN: Engine = Engine {
         plain::timetable,
         plain::process,
         plain::rank,
+        plain::join,
     ],
 };
 
@@ -44,6 +45,7 @@ pub const NAIVE: Engine = Engine {
         naive::timetable,
         naive::process,
         naive::rank,
+        naive::join,
     ],
 };
 

@@ -1,11 +1,11 @@
-//! The five operations once more, slowly and as close to the paper's words as possible: lines are
+//! The six operations once more, slowly and as close to the paper's words as possible: lines are
 //! split before they are judged, clocks are kept as such, timetables come from Bellman and Ford's
-//! passes over all bounds of each prefix, tokens are queued one by one, and instants are ranked as
-//! fractions in lowest terms.
+//! passes over all bounds of each prefix, tokens are queued one by one, instants are ranked as
+//! fractions in lowest terms, and a joined net is gathered place by place from the two it is made of.
 //!
 //! The models of nets, runs and orders here also serve the generator.
 
-use std::collections::VecDeque;
+use std::collections::{BTreeSet, VecDeque};
 use std::fmt::Write;
 
 /// A refusal: its number and its place.
@@ -52,7 +52,8 @@ pub struct Order {
 
 // Writing cards
 
-fn list<T: ToString>(items: &[T]) -> String {
+/// The items joined by commas, or the word `none`.
+pub fn list<T: ToString>(items: &[T]) -> String {
     if items.is_empty() {
         return "none".into();
     }
@@ -221,6 +222,16 @@ impl<'a> Lines<'a> {
         Ok(weights)
     }
 
+    /// The numbers of a `pairs` line, of any length.
+    fn pairs(&mut self) -> Result<Vec<u64>, Refusal> {
+        let text = self.value("pairs")?;
+        if text == b"none" {
+            return Ok(Vec::new());
+        }
+        let items = text.split(|&byte| byte == b',');
+        items.map(|item| self.form(item)).collect()
+    }
+
     fn memory(&mut self) -> Result<Memory, Refusal> {
         match self.value("memory")? {
             b"intermediate" => Ok(Memory::Intermediate),
@@ -372,6 +383,17 @@ pub fn read_order(input: &[u8], net: &Net) -> Result<Order, Refusal> {
         line: 0,
     }
     .order(net)
+}
+
+/// A `pairs` line with nothing behind it.
+pub fn read_pairs(input: &[u8]) -> Result<Vec<u64>, Refusal> {
+    let mut lines = Lines {
+        rest: input,
+        line: 0,
+    };
+    let numbers = lines.pairs()?;
+    lines.nothing()?;
+    Ok(numbers)
 }
 
 // Firing
@@ -631,6 +653,78 @@ pub fn ranked(x: &Run, y: &Run) -> Result<(i64, i64), Refusal> {
     Ok((if lead < 0 { -1 } else { 1 }, lead))
 }
 
+// Joining
+
+/// Whether a list names a place of the net each time, and none twice.
+fn names_places(net: &Net, numbers: &[u64]) -> bool {
+    let places = 0..net.start.len() as u64;
+    let different: BTreeSet<u64> = numbers.iter().copied().collect();
+    numbers.iter().all(|number| places.contains(number)) && different.len() == numbers.len()
+}
+
+/// A list of place numbers two by two, the first net's place and then the second's; or 12 or 13.
+fn paired(first: &Net, second: &Net, numbers: &[u64]) -> Result<Vec<(usize, usize)>, Refusal> {
+    let ones: Vec<u64> = numbers.iter().copied().step_by(2).collect();
+    let others: Vec<u64> = numbers.iter().copied().skip(1).step_by(2).collect();
+    if ones.len() != others.len() || !names_places(first, &ones) || !names_places(second, &others) {
+        return Err((12, 0));
+    }
+    let pairs = ones.into_iter().zip(others);
+    let pairs: Vec<(usize, usize)> = pairs
+        .map(|(one, other)| (one as usize, other as usize))
+        .collect();
+    let unequal = |&(one, other): &(usize, usize)| first.start[one] != second.start[other];
+    if pairs.iter().any(unequal) {
+        return Err((13, 0));
+    }
+    Ok(pairs)
+}
+
+/// A transition over other places, each with the old one that it is, if any; nothing is taken from
+/// and given to the others.
+fn moved(transition: &Transition, places: &[Option<usize>]) -> Transition {
+    let weights = |old: &[u64]| {
+        let weight = |&place: &Option<usize>| place.map_or(0, |place| old[place]);
+        places.iter().map(weight).collect()
+    };
+    Transition {
+        earliest: transition.earliest,
+        latest: transition.latest,
+        take: weights(&transition.take),
+        give: weights(&transition.give),
+    }
+}
+
+/// Two nets on one drawing, by a list of place numbers; or 12, 13 or 14.
+pub fn joined(first: &Net, second: &Net, numbers: &[u64]) -> Result<Net, Refusal> {
+    let pairs = paired(first, second, numbers)?;
+    let partner = |one: usize| pairs.iter().find(|pair| pair.0 == one).map(|pair| pair.1);
+    let unpaired = |other: &usize| pairs.iter().all(|pair| pair.1 != *other);
+    let own = first.start.len();
+    let behind: Vec<usize> = (0..second.start.len()).filter(unpaired).collect();
+
+    // The place of each net that a joined place is, if it is one of that net's.
+    let mut of_first: Vec<Option<usize>> = (0..own).map(Some).collect();
+    let mut of_second: Vec<Option<usize>> = (0..own).map(partner).collect();
+    let mut start = first.start.clone();
+    for other in behind {
+        of_first.push(None);
+        of_second.push(Some(other));
+        start.push(second.start[other]);
+    }
+    let firsts = first.transitions.iter().map(|old| moved(old, &of_first));
+    let seconds = second.transitions.iter().map(|old| moved(old, &of_second));
+    let transitions: Vec<Transition> = firsts.chain(seconds).collect();
+    if start.len() > 16 || transitions.len() > 32 {
+        return Err((14, 0));
+    }
+    Ok(Net {
+        sheet: first.sheet,
+        start,
+        transitions,
+    })
+}
+
 // Operations
 
 fn rounded(run: &Run) -> Run {
@@ -742,6 +836,15 @@ pub fn rank(input: &[u8], out: &mut [u8]) -> i64 {
         replayed(&net, &y)?;
         let (rank, lead) = ranked(&x, &y)?;
         Ok(format!("rank={rank}\nlead={lead}\n"))
+    });
+    result(answer, out)
+}
+
+pub fn join(input: &[u8], out: &mut [u8]) -> i64 {
+    let answer = read_net(input).and_then(|(first, rest)| {
+        let (second, rest) = read_net(rest)?;
+        let numbers = read_pairs(rest)?;
+        Ok(joined(&first, &second, &numbers)?.card())
     });
     result(answer, out)
 }

@@ -60,6 +60,11 @@ pub fn net_c() -> Net {
     )
 }
 
+/// Net F, on sheet 4: one transition that takes and gives the one token, at any time.
+pub fn net_f() -> Net {
+    net(4, &[1], &[(0, None, &[1], &[1])])
+}
+
 /// One transition that takes nothing and gives 255 tokens to an empty place, on sheet 1.
 pub fn net_255() -> Net {
     net(1, &[0], &[(0, None, &[0], &[255])])

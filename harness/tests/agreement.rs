@@ -10,7 +10,7 @@ fn call(operation: harness::Operation, input: &[u8], length: usize) -> (i64, Vec
 
 #[test]
 fn plain_and_naive_agree() {
-    let mut refusals = [0; 12];
+    let mut refusals = [0; 15];
     let mut answers = 0;
     for index in 0..6_000 {
         let input = gen::input(99, index).bytes;

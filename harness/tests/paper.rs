@@ -2,7 +2,7 @@
 //! version. In texts `|` stands for byte 10.
 
 use harness::naive::Net;
-use harness::paper::{net, net_255, net_a, net_b, net_c};
+use harness::paper::{net, net_255, net_a, net_b, net_c, net_f};
 use harness::{printed, NAIVE, OPERATIONS, PLAIN};
 
 fn bytes(text: &str) -> Vec<u8> {
@@ -73,6 +73,9 @@ fn times(net: &Net, memory: &str, fire: &[u64], instants: &[u64]) {
 }
 
 const WORDS: [&str; 3] = ["intermediate", "atomic", "carry"];
+
+/// The operations that read a run or an order of the net behind its card.
+const OF_ONE_NET: [&str; 5] = ["replay", "round", "timetable", "process", "rank"];
 
 #[test]
 fn session() {
@@ -482,7 +485,7 @@ fn sheet_of_the_second_card() {
     let run = run_lines("atomic", 2, &[(3, 0), (3, 0), (0, 1)], 0);
     let rounded = run_lines("atomic", 1, &[(1, 0), (2, 0), (0, 1)], 0);
     refuses("timetable", &(a.clone() + &on(8, &order)), 11, 1);
-    for program in OPERATIONS {
+    for program in OF_ONE_NET {
         let refused = |card: &str, number, place| {
             refuses(program, &(a.clone() + card), number, place);
         };
@@ -799,5 +802,255 @@ fn rank_output() {
         assert_eq!(rank(&input, &mut short), -9 * 65_536);
         assert_eq!(short, [7; 13]);
         assert_eq!(rank(&other, &mut []), -10 * 65_536);
+    }
+}
+
+/// The card of a net on another sheet.
+fn card_on(sheet: u64, net: Net) -> String {
+    Net { sheet, ..net }.card()
+}
+
+/// Nets A on sheet 7 and B on sheet 9, and a line behind them.
+fn a_and_b(line: &str) -> String {
+    a_on(7) + &card_on(9, net_b()) + line
+}
+
+/// Nets A on sheet 7 and F on sheet 9, and a line behind them.
+fn a_and_f(line: &str) -> String {
+    a_on(7) + &card_on(9, net_f()) + line
+}
+
+/// A net with so many places and transitions, on sheet 1, each place with so many tokens.
+fn uniform(places: usize, transitions: usize, tokens: u64) -> Net {
+    let weights = vec![0; places];
+    let transition = (0, None, weights.as_slice(), weights.as_slice());
+    net(1, &vec![tokens; places], &vec![transition; transitions])
+}
+
+/// A `pairs` line that pairs so many places with those of the same number.
+fn same_places(places: usize) -> String {
+    let pairs: Vec<String> = (0..places)
+        .map(|place| format!("{place},{place}"))
+        .collect();
+    format!("pairs={}|", pairs.join(","))
+}
+
+const A_AND_F: &str = "sheet=7|places=3|transitions=3|start=1|start=1|start=1|\
+    earliest=1|latest=2|take=1,0,0|give=1,0,0|earliest=3|latest=4|take=1,1,0|give=0,0,0|\
+    earliest=0|latest=inf|take=0,0,1|give=0,0,1|";
+
+const A_AND_B: &str = "sheet=7|places=4|transitions=5|start=1|start=1|start=1|start=0|\
+    earliest=1|latest=2|take=1,0,0,0|give=1,0,0,0|earliest=3|latest=4|take=1,1,0,0|give=0,0,0,0|\
+    earliest=0|latest=inf|take=0,0,1,0|give=0,0,0,1|earliest=5|latest=5|take=0,1,0,0|give=0,0,0,0|\
+    earliest=0|latest=2|take=0,0,0,1|give=0,0,0,0|";
+
+#[test]
+fn join() {
+    prints("join", &a_and_f("pairs=none|"), A_AND_F);
+    prints("join", &a_and_b("pairs=1,2|"), A_AND_B);
+
+    // Pairs may cross, and one number may stand once on each side.
+    let first = net(1, &[1, 2, 3], &[(0, None, &[4, 5, 6], &[7, 8, 9])]);
+    let second = net(2, &[3, 0, 1], &[(2, Some(3), &[10, 20, 30], &[40, 50, 60])]);
+    let crossed = first.card() + &second.card() + "pairs=2,0,0,2|";
+    let joined = net(
+        1,
+        &[1, 2, 3, 0],
+        &[
+            (0, None, &[4, 5, 6, 0], &[7, 8, 9, 0]),
+            (2, Some(3), &[30, 0, 10, 20], &[60, 0, 40, 50]),
+        ],
+    );
+    prints("join", &crossed, &joined.card().replace('\n', "|"));
+
+    // A net beside itself, apart and place on place.
+    let c = net_c().card();
+    let apart = "sheet=3|places=4|transitions=6|start=1|start=1|start=1|start=1|\
+        earliest=0|latest=inf|take=1,0,0,0|give=0,0,0,0|earliest=0|latest=inf|take=0,1,0,0|give=1,0,0,0|\
+        earliest=2|latest=2|take=1,0,0,0|give=0,0,0,0|earliest=0|latest=inf|take=0,0,1,0|give=0,0,0,0|\
+        earliest=0|latest=inf|take=0,0,0,1|give=0,0,1,0|earliest=2|latest=2|take=0,0,1,0|give=0,0,0,0|";
+    prints("join", &(c.clone() + &c + "pairs=none|"), apart);
+    let mut twice = net_c();
+    twice.transitions.extend(net_c().transitions);
+    let twice = twice.card().replace('\n', "|");
+    prints("join", &(c.clone() + &c + &same_places(2)), &twice);
+}
+
+#[test]
+fn join_refused() {
+    let refused = |list: &str, number, place| {
+        refuses("join", &a_and_b(&format!("pairs={list}|")), number, place);
+    };
+    // An odd list, no place of that side, a place twice on its side.
+    let zeros = ["0"; 40].join(",");
+    for list in ["1", "2,0", "0,3", "0,0,0,2", "0,0,1,0", "0,2,0,2", &zeros] {
+        refused(list, 12, 0);
+    }
+    let far = ["999999999,0", "0,256", "256,0", "0,65536", "16,0", "0,16"];
+    for list in ["0,0,1", "1,2,1"].into_iter().chain(far) {
+        refused(list, 12, 0);
+    }
+    refused("0,1", 13, 0);
+
+    // The whole list for 12, then for 13, then 14.
+    refused("0,1,9,0", 12, 0);
+    refused("9,0,0,1", 12, 0);
+    refused("0,1,1", 12, 0);
+    refused("0,1,1,1", 12, 0);
+    refused("0,0,1,1", 13, 0);
+    let two = |start: &[u64]| net(1, start, &[(0, None, &[0, 0], &[0, 0])]).card();
+    let input = two(&[1, 1]) + &two(&[2, 1]) + "pairs=0,0,9,0|";
+    refuses("join", &input, 12, 0);
+}
+
+#[test]
+fn join_too_large() {
+    let join = |first: &Net, second: &Net, line: &str| first.card() + &second.card() + line;
+    let refused = |first: &Net, second: &Net, line: &str, number| {
+        refuses("join", &join(first, second, line), number, 0);
+    };
+    let one = uniform(1, 1, 0);
+    let full = uniform(16, 16, 0);
+    refused(&full, &one, "pairs=none|", 14);
+    refused(&one, &full, "pairs=none|", 14);
+    refused(&full, &full, &same_places(15), 14);
+    refused(&full, &uniform(15, 1, 0), &same_places(14), 14);
+    let both = uniform(16, 32, 0).card().replace('\n', "|");
+    prints("join", &join(&full, &full, &same_places(16)), &both);
+    let most = uniform(16, 2, 0).card().replace('\n', "|");
+    prints(
+        "join",
+        &join(&uniform(15, 1, 0), &one, "pairs=none|"),
+        &most,
+    );
+    prints("join", &join(&uniform(16, 1, 0), &one, "pairs=3,0|"), &most);
+
+    // Transitions, and 12 and 13 before them.
+    let (some, more) = (uniform(1, 16, 1), uniform(1, 17, 1));
+    refused(&more, &some, "pairs=none|", 14);
+    refused(&some, &more, "pairs=0,0|", 14);
+    refused(&more, &uniform(1, 16, 2), "pairs=0,0|", 13);
+    refused(&more, &some, "pairs=0,1|", 12);
+    refused(&more, &some, "pairs=0|", 12);
+    let thirty_two = uniform(1, 32, 1).card().replace('\n', "|");
+    prints("join", &join(&some, &some, "pairs=0,0|"), &thirty_two);
+    refused(&uniform(16, 32, 7), &uniform(16, 32, 7), "pairs=none|", 14);
+}
+
+/// Values that are no list of pairs, one behind the other with a semicolon between them.
+const NO_LISTS: &str = ";None;non;nonee;none ;none\r; none;none,;none,1,2;1,none;1,2,none;,;1,2,;,1,2;\
+    1,,2;1,02;00,2;01,2;1, 2;1 ,2;1,2 ;+1,2;-1,2;1:2;1.2;1,2\r;0,1000000000;0,4294967296;1,x;9,x;0x1,2;\
+    pairs=1,2;inf;1,2\0";
+
+#[test]
+fn join_lines() {
+    let line = |line: &str, place| refuses("join", &a_and_b(line), 1, place);
+    for value in NO_LISTS.split(';') {
+        line(&format!("pairs={value}|"), 1);
+    }
+    let keys = ";pairs;pair=none;Pairs=none;pairs:none;sheet=7|pairs=none;none";
+    for text in keys.split(';') {
+        line(&format!("{text}|"), 1);
+    }
+    for unended in ";pairs=;pairs=none;pairs=1,2;pairs=1,2,;pairs=9".split(';') {
+        line(unended, 1);
+    }
+
+    // Bytes behind the line, whatever the list says.
+    for behind in ["|", "x", "0", "\0", "pairs=1,2|", "sheet=7|", "none|"] {
+        for list in ["none", "1,2", "1", "0,1", "9,9"] {
+            line(&format!("pairs={list}|{behind}"), 2);
+        }
+    }
+    // The form of the whole list before 12.
+    let long = ["0"; 300].join(",");
+    refuses("join", &a_and_b(&format!("pairs={long}|")), 12, 0);
+    line(&format!("pairs={long},|"), 1);
+    line(&format!("pairs={long},00|"), 1);
+    line(&format!("pairs={long}"), 1);
+    line(&format!("pairs={long}|x"), 2);
+}
+
+#[test]
+fn join_cards() {
+    let b = card_on(9, net_b());
+    let refused = |behind: &str, number, place| {
+        refuses("join", &(a_on(7) + behind), number, place);
+    };
+    let cut = b.strip_suffix("give=0,0,0\n").unwrap();
+    refused(&format!("{cut}give=0,0,|pairs=none|"), 1, 18);
+    refused(&format!("{cut}pairs=none|"), 1, 18);
+    refused(cut, 1, 18);
+    refused(&format!("{cut}give=0,0,256|pairs=9|"), 2, 18);
+    refused("", 1, 1);
+    refused("pairs=none|", 1, 1);
+    refused(&b, 1, 1);
+    refused(&format!("|{b}pairs=none|"), 1, 1);
+    refused(&(b.clone() + &on(7, &run_lines("atomic", 1, &[], 0))), 1, 1);
+
+    // The first net's lines before the second's, the second's before the line.
+    let bare = b.strip_prefix("sheet=9\n").unwrap();
+    refused(&format!("{bare}pairs=none|"), 1, 1);
+    refuses("join", &(a_on(10_000) + bare + "pairs=9|"), 2, 1);
+    refused(&(b.replace("latest=5", "latest=4") + "x"), 3, 12);
+    refused(&(b.replace("start=0", "start=256") + "pairs=|"), 2, 5);
+
+    // The two may stand on any sheets, and the first's is written.
+    for (first, second) in [(0, 0), (7, 7), (0, 9999), (9999, 0)] {
+        let f = card_on(second, net_f());
+        let joined = A_AND_F.replace("sheet=7|", &format!("sheet={first}|"));
+        prints("join", &(a_on(first) + &f + "pairs=none|"), &joined);
+    }
+}
+
+/// A run of the joined net is one of each net, with the same end.
+#[test]
+fn join_replayed() {
+    let replay = |net: &str, run: &str, answer: &str| {
+        prints("replay", &format!("{net}{run}"), answer);
+    };
+    let a = a_on(7);
+    let f = card_on(9, net_f());
+    let halves = |firings: &[(u64, u64)], rest| run_lines("atomic", 2, firings, rest);
+    let both = |wait| [(1, 2), (wait, 0), (1, 2), (2, 0), (0, 1)];
+    replay(
+        A_AND_F,
+        &on(7, &halves(&both(2), 1)),
+        "end=0,0,1|clock=off|clock=off|clock=3|",
+    );
+    replay(
+        &a,
+        &on(7, &halves(&[(3, 0), (3, 0), (0, 1)], 1)),
+        "end=0,0|clock=off|clock=off|",
+    );
+    replay(&f, &on(9, &halves(&[(1, 0), (3, 0)], 3)), "end=1|clock=3|");
+    replay(A_AND_F, &on(7, &halves(&both(1), 1)), "refused=7|place=5|");
+    replay(
+        &a,
+        &on(7, &halves(&[(2, 0), (3, 0), (0, 1)], 1)),
+        "refused=7|place=3|",
+    );
+    replay(A_AND_F, &on(9, &halves(&both(2), 1)), "refused=11|place=1|");
+}
+
+#[test]
+fn join_output() {
+    let input = bytes(&a_and_f("pairs=none|"));
+    let answer = bytes(A_AND_F);
+    let odd = bytes(&a_and_f("pairs=0|"));
+    let transition = (1000, Some(1000), [255; 16].as_slice(), [255; 16].as_slice());
+    let longest = net(9999, &[255; 16], &[transition; 16]).card();
+    let longest = bytes(&(longest.clone() + &longest + &same_places(16)));
+    for engine in [PLAIN, NAIVE] {
+        let join = engine.operations[5];
+        let mut output = vec![7; answer.len() + 1];
+        assert_eq!(join(&input, &mut output), answer.len() as i64);
+        assert_eq!(output, [answer.as_slice(), &[7]].concat());
+        let mut short = vec![7; answer.len() - 1];
+        assert_eq!(join(&input, &mut short), -9 * 65_536);
+        assert_eq!(short, vec![7; answer.len() - 1]);
+        assert_eq!(join(&odd, &mut []), -12 * 65_536);
+        assert_eq!(join(&longest, &mut [0; 5_444]), 5_444);
+        assert_eq!(join(&longest, &mut [0; 5_443]), -9 * 65_536);
     }
 }

@@ -1,8 +1,8 @@
 //! Timed runs of weak time Petri nets.
 //!
-//! Each operation reads a net card and, right behind it, a run card ([`timetable`]: an order card; [`rank`]: two run cards) from its input, and writes
-//! its answer to the front of the output. A run or order card has the sheet of its net, which the run card of an answer copies. Nothing is asked of the
-//! input; a refusal alters no byte of the output.
+//! Each operation reads a net card and, right behind it, a run card ([`timetable`]: an order card; [`rank`]: two run cards; [`join`]: a second net
+//! card and a line `pairs`) from its input, and writes its answer to the front of the output. A run or order card has the sheet of its net, which the
+//! run card of an answer copies. Nothing is asked of the input; a refusal alters no byte of the output.
 
 use std::fmt;
 
@@ -13,6 +13,7 @@ mod ffi {
         pub fn tpn_timetable(input: *const u8, input_length: usize, output: *mut u8, output_length: usize) -> i64;
         pub fn tpn_process(input: *const u8, input_length: usize, output: *mut u8, output_length: usize) -> i64;
         pub fn tpn_rank(input: *const u8, input_length: usize, output: *mut u8, output_length: usize) -> i64;
+        pub fn tpn_join(input: *const u8, input_length: usize, output: *mut u8, output_length: usize) -> i64;
     }
 }
 
@@ -22,6 +23,7 @@ pub const ROUND_MAX: usize = 2048;
 pub const TIMETABLE_MAX: usize = 2048;
 pub const PROCESS_MAX: usize = 22001;
 pub const RANK_MAX: usize = 32;
+pub const JOIN_MAX: usize = 5632;
 
 /// What a refusal means; the discriminant is its number.
 #[derive(Clone, Copy, Debug, PartialEq, Eq, Hash)]
@@ -37,18 +39,21 @@ pub enum Meaning {
     OutputTooShort = 9,
     OtherOrder = 10,
     AnotherSheet = 11,
+    BadPairs = 12,
+    UnequalStarts = 13,
+    TooLarge = 14,
 }
 
 /// Why there is no answer.
 #[derive(Clone, Copy, Debug, PartialEq, Eq, Hash)]
 pub struct Refusal {
     pub meaning: Meaning,
-    /// The line within its card, from 1, for the first four meanings and the last; the firing, from 1, for the next four; otherwise 0.
+    /// The line within its card, from 1, for the first four meanings and another sheet; the firing, from 1, for the next four; otherwise 0.
     pub place: u16,
 }
 
 impl Refusal {
-    /// The refusal's number, 1 to 11.
+    /// The refusal's number, 1 to 14.
     pub fn number(self) -> u8 {
         self.meaning as u8
     }
@@ -69,6 +74,9 @@ impl fmt::Display for Refusal {
             Meaning::OutputTooShort => write!(f, "the output is shorter than the answer"),
             Meaning::OtherOrder => write!(f, "the two runs differ in their memory word or in their order of firings"),
             Meaning::AnotherSheet => write!(f, "line {place} of a card has another sheet than the net"),
+            Meaning::BadPairs => write!(f, "the list of pairs is odd, names a place that is not in its net, or names a place twice"),
+            Meaning::UnequalStarts => write!(f, "two paired places have unequal starts"),
+            Meaning::TooLarge => write!(f, "the joined net would have more than 16 places or more than 32 transitions"),
         }
     }
 }
@@ -89,7 +97,10 @@ fn meaning(number: i64) -> Meaning {
         8 => Meaning::Untimable,
         9 => Meaning::OutputTooShort,
         10 => Meaning::OtherOrder,
-        _ => Meaning::AnotherSheet,
+        11 => Meaning::AnotherSheet,
+        12 => Meaning::BadPairs,
+        13 => Meaning::UnequalStarts,
+        _ => Meaning::TooLarge,
     }
 }
 
@@ -129,6 +140,12 @@ pub fn process(input: &[u8], output: &mut [u8]) -> Result<usize, Refusal> {
 /// instant that decides, negative if X is earlier, in ticks over the product of the two denominators.
 pub fn rank(input: &[u8], output: &mut [u8]) -> Result<usize, Refusal> {
     call(ffi::tpn_rank, input, output)
+}
+
+/// Joins two nets: the card of a net with the first's places, then the second's unpaired ones, with the first's transitions, then the second's, and
+/// on the first's sheet. The line `pairs=` has the word none, or place numbers two by two, the first net's place and then the second's.
+pub fn join(input: &[u8], output: &mut [u8]) -> Result<usize, Refusal> {
+    call(ffi::tpn_join, input, output)
 }
 
 #[cfg(test)]
@@ -236,5 +253,70 @@ mod tests {
         assert_eq!(refused(&[one, one, "\n"], &mut out), (1, 8));
         assert_eq!(refused(&[one, &one.replace("wait=1", "wait=0")], &mut out), (7, 1));
         assert_eq!(out, [7u8; 13]);
+    }
+
+    // one place with a token, which the one transition takes and gives
+    const NET_F: &str = "sheet=9\nplaces=1\ntransitions=1\nstart=1\nearliest=0\nlatest=inf\ntake=1\ngive=1\n";
+
+    #[test]
+    fn joins() {
+        let mut out = [7u8; JOIN_MAX];
+        let mut answer = |second: &str, pairs: &str| {
+            let n = join(&input([second, pairs].concat().as_bytes()), &mut out).unwrap();
+            assert!(out[n..].iter().all(|b| *b == 7));
+            let text = String::from_utf8(out[..n].to_vec()).unwrap();
+            out.fill(7);
+            text
+        };
+        let head = "sheet=1\nplaces=3\ntransitions=3\nstart=1\nstart=1\nstart=1\n";
+        let own = "earliest=1\nlatest=2\ntake=1,0,0\ngive=1,0,0\nearliest=3\nlatest=4\ntake=1,1,0\ngive=0,0,0\n";
+        let other = "earliest=0\nlatest=inf\ntake=0,0,1\ngive=0,0,1\n";
+        assert_eq!(answer(NET_F, "pairs=none\n"), [head, own, other].concat());
+        let paired = answer(NET_F, "pairs=1,0\n");
+        assert!(paired.starts_with("sheet=1\nplaces=2\ntransitions=3\nstart=1\nstart=1\n"));
+        assert!(paired.ends_with("earliest=0\nlatest=inf\ntake=0,1\ngive=0,1\n"));
+    }
+
+    #[test]
+    fn longest_join() {
+        let tokens = "start=255\n".repeat(16);
+        let weights = ["255"; 16].join(",");
+        let table = format!("earliest=1000\nlatest=1000\ntake={weights}\ngive={weights}\n");
+        let net = |transitions| format!("sheet=9999\nplaces=16\ntransitions={transitions}\n{tokens}{}", table.repeat(transitions));
+        let pairs: Vec<String> = (0..16).map(|place| format!("{place},{}", 15 - place)).collect();
+        let card = format!("{}{}pairs={}\n", net(16), net(16), pairs.join(","));
+        let mut out = [7u8; JOIN_MAX];
+        let n = join(card.as_bytes(), &mut out).unwrap();
+        assert_eq!((n, &out[..n]), (5444, net(32).as_bytes()));
+        assert_eq!(join(card.as_bytes(), &mut out[..5443]).unwrap_err().meaning, Meaning::OutputTooShort);
+    }
+
+    #[test]
+    fn join_refusals() {
+        let mut out = [7u8; 16];
+        let mut refused = |second: &str, pairs: &str| {
+            let refusal = join(&input([second, pairs].concat().as_bytes()), &mut out).unwrap_err();
+            assert_eq!(out, [7u8; 16]);
+            (refusal.number(), refusal.place, refusal.to_string())
+        };
+        let pairs = "the list of pairs is odd, names a place that is not in its net, or names a place twice";
+        for list in ["0", "2,0", "0,1", "0,0,1,0", "0,0,0,0"] {
+            assert_eq!(refused(NET_F, &format!("pairs={list}\n")), (12, 0, pairs.to_string()));
+        }
+        let two = NET_F.replace("start=1", "start=2");
+        assert_eq!(refused(&two, "pairs=0,0\n"), (13, 0, "two paired places have unequal starts".to_string()));
+        let many = NET_F.replace("transitions=1\n", "transitions=31\n") + &"earliest=0\nlatest=inf\ntake=1\ngive=1\n".repeat(30);
+        let large = "the joined net would have more than 16 places or more than 32 transitions";
+        assert_eq!(refused(&many, "pairs=none\n"), (14, 0, large.to_string()));
+        let mut short = |second: &str, pairs: &str| {
+            let (number, place, _) = refused(second, pairs);
+            (number, place)
+        };
+        assert_eq!(short(&many.replace("start=1", "start=2"), "pairs=0,0\n"), (13, 0));
+        assert_eq!(short(NET_F, "pairs=none\n"), (9, 0));
+        assert_eq!(short(NET_F, "pairs=\n"), (1, 1));
+        assert_eq!(short(NET_F, "pairs=0\nx"), (1, 2));
+        assert_eq!(short(NET_F, ""), (1, 1));
+        assert_eq!(short("", "pairs=none\n"), (1, 1));
     }
 }

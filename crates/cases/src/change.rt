@@ -80,7 +80,11 @@ fn change_at(s: &[u8], at: usize) -> Change {
 // How many of the keys the values of an operation have.
 fn keys_of(operation: Operation) -> usize {
     match operation {
-        Operation::NetValue | Operation::ReadRun | Operation::ReadOrder => 9,
+        Operation::NetValue
+        | Operation::JoinValue
+        | Operation::JoinOther
+        | Operation::ReadRun
+        | Operation::ReadOrder => 9,
         Operation::Order | Operation::TimetableValue => 12,
         _ => 15,
     }

@@ -90,6 +90,21 @@ pub(crate) fn number(s: &[u8], at: usize) -> u32 {
     v as u32
 }
 
+// Stores the numbers of a list from a position on, with a comma between two; how many, or one more than there is room for where they are too many.
+pub(crate) fn numbers(s: &[u8], from: usize, list: &mut [u32; 64]) -> usize {
+    let mut n: usize = 0;
+    let mut at = from;
+    while at < s.len() {
+        if 64 <= n {
+            return 65;
+        }
+        list[n] = number(s, at);
+        n += 1;
+        at = behind(s, at, 44);
+    }
+    n
+}
+
 // What a byte makes of what was read so far of an escape: 0 where that is nothing, 1 a backslash, and from 16 to 31 a digit too. From 256 to
 // 511 a byte is read, and above that the escape is wrong.
 fn read_byte(escape: u32, b: u8) -> u32 {

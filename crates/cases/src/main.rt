@@ -84,4 +84,6 @@ fn main() {
     run_file(b"timetable");
     run_file(b"process");
     run_file(b"rank");
+    run_file(b"join");
+    run_file(b"join-drawn");
 }

@@ -9,6 +9,7 @@ pub enum Operation {
     Timetable,
     Process,
     Rank,
+    Join,
     Net,
     NetValue,
     Run,
@@ -18,6 +19,8 @@ pub enum Operation {
     TimetableValue,
     ProcessValue,
     RankValue,
+    JoinValue,
+    JoinOther,
     ReadRun,
     ReadOrder,
     Unknown,
@@ -34,14 +37,14 @@ pub struct Case {
     pub end: usize,
 }
 
-// The number of the operation that the line at a position names: below 8 it has no changes, from 15 on it has a card.
+// The number of the operation that the line at a position names: below 9 it has no changes, from 16 on it has a card.
 fn operation_at(s: &[u8], at: usize) -> usize {
     lines::word_at(
         s,
         at,
-        b"replay ;round ;timetable ;process ;rank ;net ;run ;order ;\
+        b"replay ;round ;timetable ;process ;rank ;join ;net ;run ;order ;\
         netvalue ;runvalue ;ordervalue ;replayvalue ;roundvalue ;timetablevalue ;processvalue ;\
-        rankvalue ;readrun ;readorder ;",
+        rankvalue ;joinvalue ;joinother ;readrun ;readorder ;",
     )
 }
 
@@ -53,17 +56,20 @@ fn operation_of(number: usize) -> Operation {
         2 => Operation::Timetable,
         3 => Operation::Process,
         4 => Operation::Rank,
-        5 => Operation::Net,
-        6 | 9 => Operation::Run,
-        7 | 10 => Operation::Order,
-        8 => Operation::NetValue,
-        11 => Operation::ReplayValue,
-        12 => Operation::RoundValue,
-        13 => Operation::TimetableValue,
-        14 => Operation::ProcessValue,
-        15 => Operation::RankValue,
-        16 => Operation::ReadRun,
-        17 => Operation::ReadOrder,
+        5 => Operation::Join,
+        6 => Operation::Net,
+        7 | 10 => Operation::Run,
+        8 | 11 => Operation::Order,
+        9 => Operation::NetValue,
+        12 => Operation::ReplayValue,
+        13 => Operation::RoundValue,
+        14 => Operation::TimetableValue,
+        15 => Operation::ProcessValue,
+        16 => Operation::RankValue,
+        17 => Operation::JoinValue,
+        18 => Operation::JoinOther,
+        19 => Operation::ReadRun,
+        20 => Operation::ReadOrder,
         _ => Operation::Unknown,
     }
 }
@@ -80,13 +86,13 @@ fn line_before(s: &[u8], from: usize, line: &[u8], wanted: bool, end: usize) -> 
 pub(crate) fn case_at(s: &[u8], at: usize) -> Case {
     let number = operation_at(s, at);
     let expect = lines::line_at(s, at, b"expect\n");
-    let with = line_before(s, at, b"with\n", 8 <= number, expect);
+    let with = line_before(s, at, b"with\n", 9 <= number, expect);
     Case {
         operation: operation_of(number),
         size: lines::number(s, lines::behind(s, at, 32)) as usize,
         at,
         with,
-        card: line_before(s, with, b"card\n", 15 <= number, expect),
+        card: line_before(s, with, b"card\n", 16 <= number, expect),
         expect,
         end: lines::line_at(s, expect, b"end\n"),
     }

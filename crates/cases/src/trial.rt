@@ -102,6 +102,31 @@ fn rank_reply(net: Net, x: Run, y: Run, out: &mut [u8]) -> Reply {
     }
 }
 
+// Two nets joined by the first so many numbers of an array; 1 at 0 where it has fewer.
+fn join_by(a: Net, b: Net, numbers: [u32; 64], count: usize, out: &mut [u8]) -> Reply {
+    if 64 < count {
+        return Reply::Refused(Refusal::Malformed(0));
+    }
+    joining::join(a, b, &numbers[0..count], out)
+}
+
+// A net joined, as the first or as the second, with the one whose card is read, by the list behind that card.
+fn join_reply(net: Net, second: bool, card: &[u8], out: &mut [u8]) -> Reply {
+    let n = net_card::read_net(card);
+    let read = n.read;
+    match read {
+        LineRead::Stopped(why) => Reply::Refused(why),
+        LineRead::Next(next) => {
+            let mut list = [0u32; 64];
+            let count = lines::numbers(card, lines::behind(card, next, 61), &mut list);
+            if second {
+                return join_by(n.net, net, list, count, out);
+            }
+            join_by(net, n.net, list, count, out)
+        }
+    }
+}
+
 // How far two cards were read, one after the other.
 fn last_read(first: LineRead, second: LineRead) -> LineRead {
     match first {
@@ -119,7 +144,12 @@ fn read_of(
     other: LineRead,
 ) -> LineRead {
     match operation {
-        Operation::Net | Operation::NetValue | Operation::ReadRun | Operation::ReadOrder => net,
+        Operation::Net
+        | Operation::NetValue
+        | Operation::JoinValue
+        | Operation::JoinOther
+        | Operation::ReadRun
+        | Operation::ReadOrder => net,
         Operation::Order | Operation::TimetableValue => order,
         Operation::RankValue => last_read(run, other),
         Operation::Unknown => LineRead::Stopped(Refusal::Malformed(0)),
@@ -192,7 +222,7 @@ fn write_or_rank(operation: Operation, v: Values, out: &mut [u8]) -> Reply {
 }
 
 // What an operation on values replies, where they were read.
-fn of_values(operation: Operation, v: Values, out: &mut [u8]) -> Reply {
+fn of_values(operation: Operation, v: Values, card: &[u8], out: &mut [u8]) -> Reply {
     let read = v.read;
     match read {
         LineRead::Stopped(why) => Reply::Refused(why),
@@ -201,6 +231,8 @@ fn of_values(operation: Operation, v: Values, out: &mut [u8]) -> Reply {
             Operation::RoundValue => engine::round(v.net, v.run, out),
             Operation::TimetableValue => engine::timetable(v.net, v.order, out),
             Operation::ProcessValue => engine::process(v.net, v.run, out),
+            Operation::JoinValue => join_reply(v.net, false, card, out),
+            Operation::JoinOther => join_reply(v.net, true, card, out),
             _ => write_or_rank(operation, v, out),
         },
     }
@@ -220,9 +252,10 @@ fn reply_of(
         Operation::Timetable => engine::timetable_cards(input, out),
         Operation::Process => engine::process_cards(input, out),
         Operation::Rank => ranking::rank_cards(input, out),
+        Operation::Join => joining::join_cards(input, out),
         _ => {
             let v = change::changed(values_of(operation, input, card), operation, changes);
-            of_values(operation, with_card(operation, v, card), out)
+            of_values(operation, with_card(operation, v, card), card, out)
         }
     }
 }

@@ -11,4 +11,5 @@ pub mod Places
 pub mod Row
 pub mod Same
 pub mod Sheets
+pub mod Short
 pub mod Writable

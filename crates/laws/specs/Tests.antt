@@ -4,11 +4,11 @@ use native.Mathlib.Nat.{le-of-suc-le-suc, not-suc-le-zero, eq-or-lt-of-le, lt-tr
 use native.Mathlib.Numerals.{add-one}
 use native.Mathlib.Omega.{arith}
 use mathlib.Core.Bool.{Bool, true, false, _&&_, and-false, and-eq-true-iff, not, _||_}
-use mathlib.Core.Path.{_≡_, refl, _∙_, sym}
+use mathlib.Core.Path.{_≡_, refl, ap, _∙_, sym}
 use mathlib.Core.Logic.{⊎-elim, _↔_}
 use mathlib.Core.List.{List, [], _∷_}
 use lib.Dec.{eqb}
-use borrow.Author.Tests.{not-true, not-false, eqb-true, eq-eqb}
+use borrow.Author.Tests.{not-true, not-false, eqb-true, eqb-false, eq-eqb, ne-eqb}
 
 -- ---- A test of every number below a bound, and what a loop that is left at the first failure needs of it.
 
@@ -137,3 +137,19 @@ not-same k l h = go (sameNumbers k l) refl
     go : (b : Bool) → sameNumbers k l ≡ b → b ≡ false
     go true e = absurd (h (same-numbers-exactly k l .0 e))
     go false e = refl
+
+-- ---- Tests that say the same.
+
+-- each gives the other
+pub same-bool : (a b : Bool) → (a ≡ true → b ≡ true) → (b ≡ true → a ≡ true) → a ≡ b
+same-bool true b f g = sym (f refl)
+same-bool false true f g = g refl
+same-bool false false f g = refl
+
+-- numbers with one number added to both
+pub eqb-shift : (T u t : ℕ) → eqb (T + u) (T + t) ≡ eqb u t
+eqb-shift T u t = go (eqb u t) refl
+  where
+    go : (b : Bool) → eqb u t ≡ b → eqb (T + u) (T + t) ≡ b
+    go true e = eq-eqb (T + u) (T + t) (ap (λ (k : ℕ). T + k) (eqb-true u t e))
+    go false e = ne-eqb (T + u) (T + t) (λ q. eqb-false u t e (omega arith))

@@ -31,7 +31,7 @@ use Rattle.form.proofs.Lines.{formed-value, ranged-within, ranged-small, word-w
 use Rattle.form.proofs.Places.{OwnLine, line-placed, field-own}
 use Rattle.form.proofs.Format.{keyed-format, pair-format, held-format, times-format, ranged-format, items-format, counted-format}
 use Rattle.form.proofs.Sheets.{sheet-line-format, sheet-refused}
-use Rattle.form.proofs.Card.{read-back, passes-exactly, text-short}
+use Rattle.form.proofs.Card.{read-back, passes-exactly}
 use Rattle.net.specs.declared.Latest.{Latest}
 use Rattle.net.specs.declared.Latest.the-variants.{Unbounded, Ticks}
 use Rattle.net.specs.declared.Net.{Net}
@@ -202,10 +202,6 @@ net-read-back = read-back net-inverse
 pub net-passes-exactly : (n : Net) (rest : List ℕ)
     → (netCard .check n 1 ≡ Passed) ↔ (netCard .read (netCard .text n ++ rest) 0 1 ≡ found (netCard .clean n) (length (netCard .text n)))
 net-passes-exactly = passes-exactly net-inverse net-settled
-
--- no card is longer than what a reading looks at
-pub net-short : (n : Net) → netCard .check n 1 ≡ Passed → length (netCard .text n) ≤ netReach
-net-short = text-short net-inverse net-reaches
 
 -- the sheet and the counts of a net that passes its check
 pub net-sheet : (n : Net) → netCard .check n 1 ≡ Passed → n .sheet ≤ 9999

@@ -1,4 +1,5 @@
 pub mod Card
 pub mod Rows
 pub mod Same
+pub mod Short
 pub mod Writable

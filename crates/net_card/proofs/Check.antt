@@ -19,9 +19,9 @@ use Rattle.form.proofs.Lines.{ranged-within}
 use Rattle.form.proofs.Loops.{Checking, checking-start, checking-more, checking-refused, checking-done}
 use Rattle.net.specs.declared.Net.{Net}
 use Rattle.net.specs.Net.{row, noRow, noTransition, starts, rowAt, rowsOf, takesIn, givesIn, netCard}
+use Rattle.net.proofs.Rows.{row-there}
 use Rattle.net_card.specs.Code.{intervalLines}
 use Rattle.net_card.proofs.Read.{startLine, starts-lines}
-use Rattle.net_card.proofs.Tables.{row-there}
 
 -- the tokens and weights of a net are bytes
 pub record InBytes (n : Net) : Type 0 where

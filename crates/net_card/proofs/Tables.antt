@@ -12,7 +12,7 @@ use borrow.Author.Tests.{eqb-true, eqb-false}
 use Rattle.laws.specs.Arrays.{filled, length-filled, filled-at, filled-idle, filled-same}
 use Rattle.laws.specs.Slots.{firstOf, padTo, length-first, getD-first, getD-padded}
 use Rattle.net.specs.declared.Net.{Net}
-use Rattle.net.specs.Net.{Row, noRow, takesIn, givesIn, takeOf, giveOf, rowAt, rowsOf}
+use Rattle.net.specs.Net.{Row, noRow, takesIn, givesIn, takeOf, giveOf, rowAt}
 use Rattle.net_card.specs.Code.{spread}
 use Rattle.net_card.proofs.Stored.{length-spread, spread-other, spread-at}
 
@@ -111,10 +111,6 @@ module _ (rs : List Row) (r : Row) (t count : ℕ) (long : length rs ≡ 32) (sm
       (λ p b. (omega arith, omega arith, omega arith)) (λ j e. omega arith)
 
 -- ---- the rows of a net
-pub row-there : (n : Net) (t : ℕ) → t < 32 → getD (rowsOf n) t noRow ≡ rowAt n t
-unfolding rowsOf
-row-there n t h = filled-at (rowAt n) (replicate 32 noRow) noRow 32 t h (omega (arith, length-replicate 32 noRow))
-
 module _ (n : Net) (t : ℕ) {l : List ℕ} where
   -- its lists, gathered from the slots of the arrays
   pub take-gathered : l ≡ filled (λ p. getD (n .take) (t + 32 * p) 0) 16 (replicate 16 0) → l ≡ rowAt n t .take

@@ -10,10 +10,11 @@ use Rattle.reply.specs.declared.Checked.the-variants.{Passed}
 use Rattle.form.proofs.Loops.{texts-joined}
 use Rattle.net.specs.declared.Net.{Net}
 use Rattle.net.specs.Net.{Row, weights, row, noRow, noTransition, starts, rows, rowsOf, rowAt, netCard}
-use Rattle.net.proofs.Card.{net-short, net-places, net-transitions}
+use Rattle.net.proofs.Rows.{row-there}
+use Rattle.net.proofs.Card.{net-places, net-transitions}
+use Rattle.net.proofs.Short.{net-short}
 use Rattle.net_card.specs.Code.{intervalLines}
 use Rattle.net_card.proofs.Read.{startLine}
-use Rattle.net_card.proofs.Tables.{row-there}
 
 -- the texts of the lines, told by the index that a loop counts
 pub starts-joined : (places : ℕ) (l : List ℕ) → places ≤ 16 → starts places .text l ≡ joined (λ i. startLine .text (getD l i 0)) places
@@ -28,6 +29,6 @@ pub row-puts : (n : Net) (t : ℕ) {take give s out out′ : List ℕ} {at to to
     → Puts out to (weights (n .places) .text (take, give)) to′ out′ → Puts s at (row (n .places) .text (getD (rowsOf n) t noRow)) to′ out′
 row-puts n t h e e′ p q = rw (row-there n t h, ← e, ← e′) (rw append-assoc at (puts-then p q))
 
--- a card fits into a buffer of 12,023 bytes
-pub card-fits : (n : Net) → netCard .check n 1 ≡ Passed → (n .places ≤ 16) × (n .transitions ≤ 32) × (0 + length (netCard .text n) ≤ 12023)
+-- a card fits into a buffer of 5,444 bytes
+pub card-fits : (n : Net) → netCard .check n 1 ≡ Passed → (n .places ≤ 16) × (n .transitions ≤ 32) × (0 + length (netCard .text n) ≤ 5444)
 card-fits n p = (net-places n p .1, net-transitions n p .1, omega (arith, net-short n p))

@@ -517,7 +517,7 @@ fn put_net(out: &mut [u8], at: usize, net: Net) -> usize
     put_table(out, at_table, net)
 }
 
-// Writes the card of a net that passes its check. A reading looks at 12,023 bytes, and no card has more.
+// Writes the card of a net that passes its check. No card has more than 5,444 bytes.
 pub fn write_net(net: Net, out: &mut [u8]) -> Reply
     ensures { λ r. ⌜ Responded (netText net) (now (out .entry)) r (now (out .exit)) ⌝ }
 {
@@ -525,7 +525,7 @@ pub fn write_net(net: Net, out: &mut [u8]) -> Reply
     match c {
         Checked::Refused(r) => Reply::Refused(r),
         Checked::Passed => {
-            let mut card = [0u8; 12023];
+            let mut card = [0u8; 5444];
             let n = put_net(&mut card, 0, net);
             reply::respond(&card[..n], out)
         }

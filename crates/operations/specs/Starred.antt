@@ -37,10 +37,10 @@ use Rattle.operations.specs.Round.{roundValues}
 use Rattle.operations.specs.Timetable.{timetableValues}
 
 -- ---- values, with the slots of the arrays of the code
-rowFor : ℕ → Latest → List ℕ → List ℕ → Row
+unfoldable pub rowFor : ℕ → Latest → List ℕ → List ℕ → Row
 rowFor earliest latest take give = record { interval = record { earliest = earliest; latest = latest }; take = padTo 16 0 take; give = padTo 16 0 give }
 
-netFor : ℕ → List ℕ → List Row → Net
+unfoldable pub netFor : ℕ → List ℕ → List Row → Net
 netFor sheet start rs = toNet (sheet, (length start, (length rs, (padTo 16 0 start, padTo 32 noRow rs))))
 
 orderFor : ℕ → Memory → List ℕ → Order
@@ -51,10 +51,10 @@ runFor sheet memory D waits order =
     record { sheet = sheet; memory = memory; denominator = D; count = length order; firings = padTo 64 noFiring (zipFirings waits order); rest = 0 }
 
 -- net A, on sheet 1: the motor pulse and the closing of the batch
-netA : Net
+unfoldable pub netA : Net
 netA = netFor 1 (1 ∷ 1 ∷ []) (rowFor 1 (Ticks 2) (1 ∷ 0 ∷ []) (1 ∷ 0 ∷ []) ∷ rowFor 3 (Ticks 4) (1 ∷ 1 ∷ []) (0 ∷ 0 ∷ []) ∷ [])
 
-netB : Net
+unfoldable pub netB : Net
 netB =
     netFor 2 (1 ∷ 0 ∷ 1 ∷ [])
     (rowFor 0 Unbounded (1 ∷ 0 ∷ 0 ∷ []) (0 ∷ 1 ∷ 0 ∷ [])
@@ -148,19 +148,19 @@ starred =
     ∷ []
 
 -- ---- the check
-sameBytes : List ℕ → List ℕ → Bool
+unfoldable pub sameBytes : List ℕ → List ℕ → Bool
 sameBytes [] [] = true
 sameBytes [] (b ∷ bs) = false
 sameBytes (a ∷ as′) [] = false
 sameBytes (a ∷ as′) (b ∷ bs) = eqb a b && sameBytes as′ bs
 
-sameOutcome : Outcome → Outcome → Bool
+unfoldable pub sameOutcome : Outcome → Outcome → Bool
 sameOutcome (answer text) (answer other) = sameBytes text other
 sameOutcome (answer text) (refusal q) = false
 sameOutcome (refusal r) (answer other) = false
 sameOutcome (refusal r) (refusal q) = eqb (numberOf r) (numberOf q) && eqb (positionOf r) (positionOf q)
 
-pub casesHold : List Case → Bool
+unfoldable pub casesHold : List Case → Bool
 casesHold [] = true
 casesHold (c ∷ cs) = sameOutcome (c .comes-to) (c .should) && casesHold cs
 

@@ -3,6 +3,7 @@ use Prim.Native.Nat.{ℕ}
 use Rattle.reply.specs.declared.Refusal.{Refusal}
 use Rattle.reply.specs.declared.Refusal.the-variants.{Malformed, OutOfRange, LatestBelowEarliest, NoSuchTransition, NotEnabled, TooManyTokens}
 use Rattle.reply.specs.declared.Refusal.the-variants.{OutsideInterval, Untimable, OutputTooShort, OtherOrder, AnotherSheet}
+use Rattle.reply.specs.declared.Refusal.the-variants.{BadPairs, UnequalStarts, TooLarge}
 
 abbrev pub numberOf : Refusal → ℕ
 numberOf (Malformed line) = 1
@@ -16,8 +17,11 @@ numberOf (Untimable firing) = 8
 numberOf OutputTooShort = 9
 numberOf OtherOrder = 10
 numberOf (AnotherSheet line) = 11
+numberOf BadPairs = 12
+numberOf UnequalStarts = 13
+numberOf TooLarge = 14
 
--- a line of a card from 1, a firing from 1, or 0 where the output is too short or two runs are not of one order
+-- a line of a card from 1, a firing from 1, or 0 where the output is too short, two runs are not of one order or two nets cannot be joined
 abbrev pub positionOf : Refusal → ℕ
 positionOf (Malformed line) = line
 positionOf (OutOfRange line) = line
@@ -30,3 +34,6 @@ positionOf (Untimable firing) = firing
 positionOf OutputTooShort = 0
 positionOf OtherOrder = 0
 positionOf (AnotherSheet line) = line
+positionOf BadPairs = 0
+positionOf UnequalStarts = 0
+positionOf TooLarge = 0

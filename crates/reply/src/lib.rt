@@ -3,8 +3,9 @@ ghost use mathlib.Core.Path.{_≡_};
 ghost use Rattle.reply.specs.Refusal.{numberOf, positionOf};
 ghost use Rattle.reply.specs.Respond.{Responded, answer};
 
-// Why an operation gives no answer. The variants hold the place that documents 01 and 02 print with them: a line of a card for the first four and the
-// last, a firing for the next four, both from 1. The others have place 0: an output too short, two runs that are not of one order.
+// Why an operation gives no answer. The variants hold the place that documents 01 and 02 print with them: a line of a card for the first four and for
+// another sheet, a firing for the next four, both from 1. The others have place 0: an output too short, two runs that are not of one order, and nets that
+// cannot be joined, by their list of pairs, their starts or their size.
 pub enum Refusal {
     Malformed(usize),
     OutOfRange(usize),
@@ -17,6 +18,9 @@ pub enum Refusal {
     OutputTooShort,
     OtherOrder,
     AnotherSheet(usize),
+    BadPairs,
+    UnequalStarts,
+    TooLarge,
 }
 
 // What a check of a value or of one line says.
@@ -47,6 +51,9 @@ pub fn number_of(r: Refusal) -> u32
         Refusal::OutputTooShort => 9,
         Refusal::OtherOrder => 10,
         Refusal::AnotherSheet(_) => 11,
+        Refusal::BadPairs => 12,
+        Refusal::UnequalStarts => 13,
+        Refusal::TooLarge => 14,
     }
 }
 
@@ -66,6 +73,9 @@ pub fn position_of(r: Refusal) -> usize
         Refusal::OutputTooShort => 0,
         Refusal::OtherOrder => 0,
         Refusal::AnotherSheet(line) => line,
+        Refusal::BadPairs => 0,
+        Refusal::UnequalStarts => 0,
+        Refusal::TooLarge => 0,
     }
 }
 

@@ -17,7 +17,7 @@ use mir.Facts.{toZ-ofZ, toZ-pos}
 use Rattle.laws.specs.Differences.{difference-less, difference-small}
 use Rattle.reply.specs.declared.Refusal.{Refusal}
 use Rattle.reply.specs.declared.Refusal.the-variants.{Malformed, OutOfRange, LatestBelowEarliest, NoSuchTransition, NotEnabled, TooManyTokens, OutsideInterval}
-use Rattle.reply.specs.declared.Refusal.the-variants.{Untimable, OutputTooShort, OtherOrder, AnotherSheet}
+use Rattle.reply.specs.declared.Refusal.the-variants.{Untimable, OutputTooShort, OtherOrder, AnotherSheet, BadPairs, UnequalStarts, TooLarge}
 use Rattle.reply.specs.declared.Reply.{Reply}
 use Rattle.reply.specs.declared.Reply.the-variants.{Written, Refused}
 use Rattle.reply.specs.Refusal.{numberOf, positionOf}
@@ -38,6 +38,9 @@ number-small (Untimable firing) = (omega arith, omega arith)
 number-small OutputTooShort = (omega arith, omega arith)
 number-small OtherOrder = (omega arith, omega arith)
 number-small (AnotherSheet line) = (omega arith, omega arith)
+number-small BadPairs = (omega arith, omega arith)
+number-small UnequalStarts = (omega arith, omega arith)
+number-small TooLarge = (omega arith, omega arith)
 
 pub code-small : (r : Refusal) → positionOf r < 65536 → codeOf r < 21 * 65536
 code-small r h = omega (arith, number-small r .1)
@@ -71,6 +74,9 @@ refusalAt number place =
     ∷ OutputTooShort
     ∷ OtherOrder
     ∷ AnotherSheet place
+    ∷ BadPairs
+    ∷ UnequalStarts
+    ∷ TooLarge
     ∷ []) number OutputTooShort
 
 refusal-back : (r : Refusal) → refusalAt (numberOf r) (positionOf r) ≡ r
@@ -85,6 +91,9 @@ refusal-back (Untimable firing) = refl
 refusal-back OutputTooShort = refl
 refusal-back OtherOrder = refl
 refusal-back (AnotherSheet line) = refl
+refusal-back BadPairs = refl
+refusal-back UnequalStarts = refl
+refusal-back TooLarge = refl
 
 -- ---- an answer
 pub answer-not-negative : (n : ℕ) → nonNeg (resultOf (Written n)) ≡ true

@@ -1,6 +1,7 @@
 // The operations on cards for programs in other languages: a static library. A `&[u8]` is there a pointer and a length.
-// Each reads a net card and, behind it, a run card (tpn_timetable: an order card; tpn_rank: two run cards), and writes its answer to the front of the
-// output. It returns how many bytes these are, or -(number * 65536 + place) for a refusal, which leaves the output as it was.
+// Each reads a net card and, behind it, a run card (tpn_timetable: an order card; tpn_rank: two run cards; tpn_join: another net card and a line `pairs`),
+// and writes its answer to the front of the output. It returns how many bytes these are, or -(number * 65536 + place) for a refusal, which leaves the output
+// as it was.
 use reply::Reply;
 ghost use mathlib.Core.Path.{_≡_};
 ghost use Rattle.operations.specs.Replay.{replayCards};
@@ -8,6 +9,7 @@ ghost use Rattle.operations.specs.Round.{roundCards};
 ghost use Rattle.operations.specs.Process.{processCards};
 ghost use Rattle.operations.specs.Timetable.{timetableCards};
 ghost use Rattle.ranking.specs.Ranking.{rankCards};
+ghost use Rattle.joining.specs.Joining.{joinCards};
 ghost use Rattle.tpn.specs.Result.{resultOf, Narrow, Returned};
 
 // A reply as one number. Every reply of an operation is narrow.
@@ -68,5 +70,14 @@ pub extern "C" fn tpn_rank(input: &[u8], output: &mut [u8]) -> i64
     ensures { λ r. ⌜ Returned (rankCards (now (input .entry))) (now (output .entry)) r (now (output .exit)) ⌝ }
 {
     let r = ranking::rank_cards(input, output);
+    result_of(r)
+}
+
+// Joins two nets by the pairs of their places: the card of the joined net.
+#[no_mangle]
+pub extern "C" fn tpn_join(input: &[u8], output: &mut [u8]) -> i64
+    ensures { λ r. ⌜ Returned (joinCards (now (input .entry))) (now (output .entry)) r (now (output .exit)) ⌝ }
+{
+    let r = joining::join_cards(input, output);
     result_of(r)
 }

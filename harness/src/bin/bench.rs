@@ -16,6 +16,7 @@ const ROUND: usize = 1;
 const TIMETABLE: usize = 2;
 const PROCESS: usize = 3;
 const RANK: usize = 4;
+const JOIN: usize = 5;
 
 /// The least time of one sample; the calls of a sample are as many as it takes.
 const SAMPLE: Duration = Duration::from_micros(150);
@@ -42,7 +43,7 @@ fn typical_runs() -> Vec<Vec<u8>> {
         (paper::net_c(), free),
     ]
     .iter()
-    .map(gen::join_run)
+    .map(gen::with_run)
     .collect()
 }
 
@@ -57,7 +58,7 @@ fn typical_orders() -> Vec<Vec<u8>> {
     .into_iter()
     .map(|(net, memory, fire)| {
         let order = paper::order(net.sheet, memory, fire);
-        gen::join(&(net, order))
+        gen::with_order(&(net, order))
     })
     .collect()
 }
@@ -89,7 +90,19 @@ fn typical_pairs() -> Vec<Vec<u8>> {
         ),
     ]
     .iter()
-    .map(gen::join_pair)
+    .map(gen::with_pair)
+    .collect()
+}
+
+fn typical_nets() -> Vec<Vec<u8>> {
+    [
+        (paper::net_a(), paper::net_b(), vec![1, 2]),
+        (paper::net_a(), paper::net_c(), vec![]),
+        (paper::net_b(), paper::net_c(), vec![0, 0]),
+        (paper::net_c(), paper::net_a(), vec![0, 0, 1, 1]),
+    ]
+    .iter()
+    .map(gen::two_nets)
     .collect()
 }
 
@@ -132,6 +145,14 @@ fn longest_pair() -> (Net, Run, Run) {
     (net, x, y)
 }
 
+/// Two of the longest nets of 16 transitions, all places paired.
+fn longest_nets() -> (Net, Net, Vec<u64>) {
+    let mut net = uniform(255, 1000, Some(1000), 255);
+    net.transitions.truncate(16);
+    let pairs = (0..16).flat_map(|place| [place, place]).collect();
+    (net.clone(), net, pairs)
+}
+
 /// Every firing takes tokens of two producers from every place.
 fn longest_process() -> (Net, Run) {
     let firings: Vec<(u64, usize)> = (0..64).map(|at| (at, 31 - at as usize % 20)).collect();
@@ -146,62 +167,51 @@ fn longest_timetable() -> (Net, Order) {
     (uniform(255, 1000, Some(1000), 255), order)
 }
 
+/// The hardest inputs of an operation, with their names.
+fn worst(operation: usize) -> Vec<(&'static str, Vec<u8>)> {
+    let longest = |input| ("worst: longest cards and answer", input);
+    match operation {
+        REPLAY => vec![longest(gen::with_run(&longest_run(Memory::Atomic)))],
+        ROUND => vec![longest(gen::with_run(&longest_run(Memory::Intermediate)))],
+        TIMETABLE => {
+            let bends = gen::with_order(&gen::bends_to_the_last());
+            let drift = gen::with_order(&gen::drift_to_the_last());
+            vec![
+                longest(gen::with_order(&longest_timetable())),
+                ("worst: most sweeps", gen::with_order(&gen::most_sweeps())),
+                ("worst: most bends, 8 at the last", bends),
+                ("worst: slow gain, 8 at the last", drift),
+            ]
+        }
+        RANK => vec![longest(gen::with_pair(&longest_pair()))],
+        JOIN => vec![longest(gen::two_nets(&longest_nets()))],
+        _ => vec![longest(gen::with_run(&longest_process()))],
+    }
+}
+
 fn workloads() -> Vec<Workload> {
     let rng = &mut Rng::new(2026);
-    let large_runs = several(|| gen::join_run(&gen::large_run(rng)));
-    let large_orders = several(|| gen::join(&gen::large_order(rng)));
-    let large_pairs = several(|| gen::join_pair(&gen::large_pair(rng)));
-    let one = |operation, name, input| Workload {
-        operation,
-        name,
-        inputs: vec![input],
-    };
+    let large_runs = several(|| gen::with_run(&gen::large_run(rng)));
+    let large_orders = several(|| gen::with_order(&gen::large_order(rng)));
+    let large_pairs = several(|| gen::with_pair(&gen::large_pair(rng)));
+    let large_nets = several(|| gen::two_nets(&gen::large_nets(rng)));
     let mut workloads = Vec::new();
-    for operation in [REPLAY, ROUND, TIMETABLE, PROCESS, RANK] {
+    for operation in [REPLAY, ROUND, TIMETABLE, PROCESS, RANK, JOIN] {
         let (typical, large) = match operation {
             TIMETABLE => (typical_orders(), large_orders.clone()),
             RANK => (typical_pairs(), large_pairs.clone()),
+            JOIN => (typical_nets(), large_nets.clone()),
             _ => (typical_runs(), large_runs.clone()),
         };
-        for (name, inputs) in [("typical", typical), ("large", large)] {
+        let worst = worst(operation).into_iter();
+        let worst = worst.map(|(name, input)| (name, vec![input]));
+        let named = [("typical", typical), ("large", large)];
+        for (name, inputs) in named.into_iter().chain(worst) {
             workloads.push(Workload {
                 operation,
                 name,
                 inputs,
             });
-        }
-        let longest = "worst: longest cards and answer";
-        match operation {
-            REPLAY => workloads.push(one(
-                operation,
-                longest,
-                gen::join_run(&longest_run(Memory::Atomic)),
-            )),
-            ROUND => workloads.push(one(
-                operation,
-                longest,
-                gen::join_run(&longest_run(Memory::Intermediate)),
-            )),
-            TIMETABLE => {
-                workloads.push(one(operation, longest, gen::join(&longest_timetable())));
-                workloads.push(one(
-                    operation,
-                    "worst: most sweeps",
-                    gen::join(&gen::most_sweeps()),
-                ));
-                workloads.push(one(
-                    operation,
-                    "worst: most bends, 8 at the last",
-                    gen::join(&gen::bends_to_the_last()),
-                ));
-                workloads.push(one(
-                    operation,
-                    "worst: slow gain, 8 at the last",
-                    gen::join(&gen::drift_to_the_last()),
-                ));
-            }
-            RANK => workloads.push(one(operation, longest, gen::join_pair(&longest_pair()))),
-            _ => workloads.push(one(operation, longest, gen::join_run(&longest_process()))),
         }
     }
     workloads

@@ -19,7 +19,7 @@ pub fn lines(bytes: &[u8]) -> Vec<(usize, usize)> {
     lines
 }
 
-const NUMBERS: [&str; 34] = [
+pub const NUMBERS: [&str; 34] = [
     "",
     "0",
     "00",
@@ -56,7 +56,7 @@ const NUMBERS: [&str; 34] = [
     "1e3",
 ];
 
-const WORDS: [&str; 31] = [
+const WORDS: [&str; 32] = [
     "inf",
     "INF",
     "in",
@@ -88,6 +88,7 @@ const WORDS: [&str; 31] = [
     "fire=0",
     "firings=0",
     "denominator=1",
+    "pairs=none",
 ];
 
 /// Does one thing to the bytes that a careless writer or a bad line might.
@@ -138,6 +139,7 @@ pub fn damage(rng: &mut Rng, bytes: &mut Vec<u8>) {
                 "fire=0\n",
                 "places=1\n",
                 "sheet=1\n",
+                "pairs=none\n",
                 "\0",
             ])
             .as_bytes(),

@@ -11,7 +11,7 @@ const MOST_PARTS: u64 = 10_000_000;
 pub type Pair = (Net, Run, Run);
 
 /// A net card with two run cards behind it.
-pub fn join_pair((net, x, y): &Pair) -> Vec<u8> {
+pub fn with_pair((net, x, y): &Pair) -> Vec<u8> {
     (net.card() + &x.card() + &y.card()).into_bytes()
 }
 

@@ -57,6 +57,12 @@ pub struct Order {
     pub fire: [u8; FIRINGS],
 }
 
+/// The list of a `pairs` line: how many numbers it has, and as many of them as can be pairs.
+pub struct Pairs {
+    pub count: usize,
+    pub number: [u32; 2 * PLACES],
+}
+
 impl Net {
     #[inline(always)]
     pub fn empty() -> Self {
@@ -156,6 +162,23 @@ impl Order {
         for fire in &mut self.fire[..self.firings] {
             *fire = lines.fire(net.transitions)?;
         }
+        lines.end()
+    }
+}
+
+impl Pairs {
+    #[inline(always)]
+    pub fn empty() -> Self {
+        Pairs {
+            count: 0,
+            number: [0; 2 * PLACES],
+        }
+    }
+
+    /// Fills an empty list from its line, with nothing behind it.
+    pub fn read(&mut self, input: &[u8]) -> Result<(), i64> {
+        let mut lines = Lines::new(input);
+        lines.pairs(self)?;
         lines.end()
     }
 }
@@ -273,6 +296,28 @@ impl<'a> Lines<'a> {
         Ok(value as u8)
     }
 
+    /// Reads the word `none` or a list of any length, of which the numbers past the slots are counted.
+    fn pairs(&mut self, pairs: &mut Pairs) -> Result<(), i64> {
+        let mut text = self.key(b"pairs=")?;
+        if let Some(rest) = text.strip_prefix(b"none\n") {
+            self.rest = rest;
+            return Ok(());
+        }
+        loop {
+            let (value, end, rest) = decimal_before(text, |byte| byte == b',' || byte == b'\n')
+                .ok_or(refused(1, self.line))?;
+            if let Some(slot) = pairs.number.get_mut(pairs.count) {
+                *slot = value;
+            }
+            pairs.count += 1;
+            text = rest;
+            if end == b'\n' {
+                self.rest = rest;
+                return Ok(());
+            }
+        }
+    }
+
     fn end(&self) -> Result<(), i64> {
         if self.rest.is_empty() {
             Ok(())
@@ -282,9 +327,16 @@ impl<'a> Lines<'a> {
     }
 }
 
-/// Reads one to nine digits without a leading zero, and the byte behind them.
+/// Reads one to nine digits without a leading zero, and the byte behind them, which is this one.
 #[inline(always)]
 fn decimal(text: &[u8], end: u8) -> Option<(u32, &[u8])> {
+    let (value, _, rest) = decimal_before(text, |byte| byte == end)?;
+    Some((value, rest))
+}
+
+/// Reads one to nine digits without a leading zero, and the byte behind them, which is such an end.
+#[inline(always)]
+fn decimal_before(text: &[u8], is_end: impl Fn(u8) -> bool) -> Option<(u32, u8, &[u8])> {
     let (&first, mut rest) = text.split_first()?;
     let mut value = u32::from(first.wrapping_sub(b'0'));
     if value > 9 {
@@ -293,8 +345,8 @@ fn decimal(text: &[u8], end: u8) -> Option<(u32, &[u8])> {
     loop {
         let (&byte, behind) = rest.split_first()?;
         rest = behind;
-        if byte == end {
-            return Some((value, rest));
+        if is_end(byte) {
+            return Some((value, byte, rest));
         }
         let digit = u32::from(byte.wrapping_sub(b'0'));
         // A digit behind a value of 0 makes a leading zero, one behind nine digits a tenth.

@@ -1,15 +1,17 @@
-//! The five operations as plain Rust, written for speed from the paper alone.
+//! The six operations as plain Rust, written for speed from the paper alone.
 //!
-//! Each reads its cards in one pass into fixed arrays, steps through the firings, and writes its
-//! answer into a buffer on the stack, which is copied out once its length is known.
+//! Each reads its cards in one pass into fixed arrays, steps through the firings or puts one net into
+//! the other, and writes its answer into a buffer on the stack, which is copied out once its length is known.
 
 mod card;
 mod firing;
+mod join;
 mod text;
 mod timing;
 
-use card::{Memory, Net, Order, Run, FIRINGS, PLACES};
+use card::{Memory, Net, Order, Pairs, Run, Transition, FIRINGS, PLACES, UNBOUNDED};
 use firing::State;
+use join::Layout;
 use text::Text;
 use timing::Timing;
 
@@ -17,6 +19,7 @@ const REPLAY_LONGEST: usize = 580;
 const RUN_LONGEST: usize = 1_478;
 const PROCESS_LONGEST: usize = 22_000;
 const RANK_LONGEST: usize = 26;
+const NET_LONGEST: usize = 5_444;
 
 /// The result of a refusal.
 const fn refused(number: u32, place: u32) -> i64 {
@@ -52,6 +55,11 @@ pub fn process(input: &[u8], out: &mut [u8]) -> i64 {
 /// Which of two runs of one order stands before the other, and by how much.
 pub fn rank(input: &[u8], out: &mut [u8]) -> i64 {
     result(rank_outcome(input, out))
+}
+
+/// Two nets joined at paired places.
+pub fn join(input: &[u8], out: &mut [u8]) -> i64 {
+    result(join_outcome(input, out))
 }
 
 fn replay_outcome(input: &[u8], out: &mut [u8]) -> Result<i64, i64> {
@@ -228,6 +236,19 @@ fn lead(x: &Run, y: &Run) -> i64 {
         .unwrap_or_else(|| after(x.rest, y.rest))
 }
 
+fn join_outcome(input: &[u8], out: &mut [u8]) -> Result<i64, i64> {
+    let (mut first, mut second, mut pairs) = (Net::empty(), Net::empty(), Pairs::empty());
+    let behind_first = first.read(input)?;
+    let behind_second = second.read(behind_first)?;
+    pairs.read(behind_second)?;
+    let layout = Layout::new(&first, &second, &pairs)?;
+    first.join(&second, &layout);
+
+    let mut text = Text::<NET_LONGEST>::new();
+    net_card(&mut text, &first);
+    text.copy_to(out)
+}
+
 /// The state after the last firing, and its instant; or the first firing refused.
 fn replayed<'n>(net: &'n Net, run: &Run) -> Result<(State<'n>, u32), i64> {
     let mut state = State::new(net, run.memory);
@@ -277,4 +298,43 @@ fn item(text: &mut Text<PROCESS_LONGEST>, place: usize, producer: usize, count: 
     text.number(place as u32, b'.');
     text.number(producer as u32, b'.');
     text.number(count.into(), b',');
+}
+
+fn net_card(text: &mut Text<NET_LONGEST>, net: &Net) {
+    text.push(b"sheet=");
+    text.number(net.sheet, b'\n');
+    text.push(b"places=");
+    text.number(net.places as u32, b'\n');
+    text.push(b"transitions=");
+    text.number(net.transitions as u32, b'\n');
+    for &tokens in &net.start[..net.places] {
+        text.push(b"start=");
+        text.number(tokens.into(), b'\n');
+    }
+    for transition in &net.transition[..net.transitions] {
+        transition_lines(text, transition, net.places);
+    }
+}
+
+fn transition_lines(text: &mut Text<NET_LONGEST>, transition: &Transition, places: usize) {
+    text.push(b"earliest=");
+    text.number(transition.earliest, b'\n');
+    text.push(b"latest=");
+    match transition.latest {
+        UNBOUNDED => text.push(b"inf\n"),
+        latest => text.number(latest, b'\n'),
+    }
+    text.push(b"take=");
+    weights(text, &transition.take[..places]);
+    text.push(b"give=");
+    weights(text, &transition.give[..places]);
+}
+
+/// A list of at least one weight, to the line's end.
+fn weights(text: &mut Text<NET_LONGEST>, weights: &[u8]) {
+    let list = text.len();
+    for &weight in weights {
+        text.number(weight.into(), b',');
+    }
+    text.end_list(list);
 }

@@ -16,7 +16,7 @@ passes c = sym (c .before .before .check-net .ensures) ∙ c .enum-told .given .
 
 -- the card stands at the front of the buffer
 wrote : (c : tie.After-put-net) → let t = c .before .before in
-    Wrote (replicate 12023 0) 0 (netCard .text (t .before .before .before .before .args .net)) (c .put-net .result) (c .put-net .last .0)
+    Wrote (replicate 5444 0) 0 (netCard .text (t .before .before .before .before .args .net)) (c .put-net .result) (c .put-net .last .0)
 wrote c =
     let t = c .before .before in
     wrote-puts (card-fits (t .before .before .before .before .args .net) (passes t) .2) (c .put-net .ensures)
