@@ -1,55 +1,101 @@
--- A number is written from its lowest digit up into a row of twenty, and each digit goes in front of those behind it: the digits of what is left
--- and the digits in the row are together those of the number. No number has more than twenty digits, so there is room for each.
-use Prim.Native.Nat.{ℕ, suc, _+_, _-_, _/_, _%_, _^_, _≤_, _<_}
-use native.Mathlib.Nat.{div-le-self}
+-- A number is written from its highest digit down. Each digit is how often its power of ten is subtracted, and what is left has the digits behind it.
+use Prim.Native.Nat.{ℕ, suc, _+_, _-_, _*_, _^_, _≤_, _<_}
+use native.Mathlib.Nat.{lt-of-mul-lt-mul-right, add-mul, one-mul, pow-suc}
 use native.Mathlib.Omega.{arith}
-use mathlib.Core.List.{List, [], _∷_, _++_, append-assoc, append-nil}
-use mathlib.Core.Path.{_≡_, refl, sym, ap, _∙_}
-use lib.ListN.{length, take, drop, set, length-append, length-drop, length-set}
-use lib.Seq.{take-all, drop-cons, drop-set-lt, getD-set-same}
-use Rattle.text.specs.Decimal.{decimal}
-use Rattle.text.proofs.DecimalLaws.{decimal-width, width-most, length-decimal, decimal-one, decimal-last}
+use mathlib.Core.List.{List, [], _∷_, _++_, append-assoc}
+use mathlib.Core.Logic.{_⊎_, inl, inr}
+use mathlib.Core.Path.{_≡_, refl, ap, _∙_}
+use lib.ListN.{length}
+use Rattle.laws.specs.Writing.{Puts, puts-none, puts-then, puts-length}
+use Rattle.text.specs.Decimal.{digits, width, decimal}
+use Rattle.text.proofs.DecimalLaws.{Width, width-unique, width-right, width-most, decimal-wide, digits-first, digits-one}
 
--- the row: its places from i on hold the last digits of n, and the others are those of v
-pub record Row (n : ℕ) (row : List ℕ) (v i : ℕ) : Type 0 where
-  pub long : length row ≡ 20
-  pub within : i ≤ 20
-  pub small : v < 10 ^ 20
-  pub text : decimal n ≡ decimal v ++ drop i row
+-- ---- A power p that was subtracted d times from v, where `left` is left.
 
-pub row-start : (n : ℕ) (row : List ℕ) → n < 10 ^ 20 → length row ≡ 20 → drop 20 row ≡ [] → Row n row n 20
-row-start n row h l e = record { long = l; within = omega arith; small = h; text = rw (e, append-nil) refl }
+-- of a number below ten powers d is a digit
+pub times-digit : (v p d left : ℕ) → v ≡ d * p + left → v < 10 * p → d < 10
+times-digit v p d left e h = lt-of-mul-lt-mul-right p (omega arith)
 
--- a digit in front of those in the row
-in-front : (row : List ℕ) (i d : ℕ) → 1 ≤ i → i ≤ length row → drop (i - 1) (set row (i - 1) d) ≡ d ∷ drop i row
-in-front row i d o h =
-    let e : suc (i - 1) ≡ i = omega arith in
-    let l = length-set row (i - 1) d in
-    drop-cons (set row (i - 1) d) (i - 1) 0 (omega arith)
-    ∙ rw (getD-set-same row (i - 1) d 0 (omega arith), e, drop-set-lt i row (i - 1) d (omega arith)) refl
+pub times-more : (v p d left : ℕ) → v ≡ d * p + left → p ≤ left → v ≡ (d + 1) * p + (left - p)
+times-more v p d left e h = omega (arith, add-mul d 1 p, one-mul p)
 
-module _ (n : ℕ) (row : List ℕ) (v i : ℕ) (r : Row n row v i) where
-  pub row-room : 1 ≤ i
-  row-room =
-      omega
-      (arith, ap length (r .text) ∙ length-append (decimal v) (drop i row), length-drop i row, r .long, length-decimal v, decimal-width n, width-most 19 n)
+-- a number of k + 1 digits is below ten times the k-th power
+pub below-ten : (v k p : ℕ) → p ≡ 10 ^ k → v < 10 ^ suc k → v < 10 * p
+below-ten v k p e h = omega (arith, pow-suc 10 k)
 
-  pub row-more : 10 ≤ v → Row n (set row (i - 1) (48 + v % 10)) (v / 10) (i - 1)
-  row-more ten =
-      let o = row-room in
+-- ---- The highest digit.
+
+pub highest-width : (n k : ℕ) → n < 10 ^ 20 → (k ≡ 0) ⊎ (10 ^ k ≤ n) → n < 10 ^ suc k → suc k ≡ width 19 n
+highest-width n k s l h = width-unique n (suc k) (width 19 n) (record { enough = h; one = omega arith; least = go l }) (width-right 19 n s)
+  where
+    less : suc k - 1 ≡ k
+    less = omega arith
+
+    go : (k ≡ 0) ⊎ (10 ^ k ≤ n) → (suc k ≡ 1) ⊎ (10 ^ (suc k - 1) ≤ n)
+    go (inl e) = inl (ap suc e)
+    go (inr m) = inr (rw less m)
+
+-- ---- Numbers of two and of three digits, by what `subtract` promises.
+
+digits-two : (v d left : ℕ) → (v ≡ d * 10 + left) × (left < 10) → digits 2 v ≡ (48 + d) ∷ (48 + left) ∷ []
+digits-two v d left e = digits-first 1 v d left (e .0) (e .1) ∙ ap (λ (t : List ℕ). (48 + d) ∷ t) (digits-one left)
+
+pub decimal-two : (n d left : ℕ) → (10 ≤ n) × (n < 100) → (n ≡ d * 10 + left) × (left < 10) → decimal n ≡ (48 + d) ∷ (48 + left) ∷ []
+decimal-two n d left h e =
+    decimal-wide n 2 (record { enough = h .1; one = omega arith; least = inr (h .0) }) (omega (arith, h .1)) ∙ digits-two n d left e
+
+pub decimal-three : (n c low d left : ℕ) →
+    (100 ≤ n) × (n < 1000) →
+    (n ≡ c * 100 + low) × (low < 100) →
+    (low ≡ d * 10 + left) × (left < 10) →
+    decimal n ≡ (48 + c) ∷ (48 + d) ∷ (48 + left) ∷ []
+decimal-three n c low d left h e e′ =
+    decimal-wide n 3 (record { enough = h .1; one = omega arith; least = inr (h .0) }) (omega (arith, h .1))
+    ∙ digits-first 2 n c low (e .0) (e .1)
+    ∙ ap (λ (t : List ℕ). (48 + c) ∷ t) (digits-two low d left e′)
+
+-- ---- The state of the writer: it has put the digits of n that stand before the last k + 1, and those are the digits of `left`.
+
+pub record PuttingDigits (n : ℕ) (s : List ℕ) (at : ℕ) (out : List ℕ) (to left k : ℕ) : Type 0 where
+  pub before : List ℕ
+  pub all : decimal n ≡ before ++ digits (suc k) left
+  pub few : k ≤ 19
+  pub small : left < 10 ^ suc k
+  pub long : length out ≡ length s
+  pub puts : Puts s at before to out
+
+pub digits-start : (n : ℕ) (s : List ℕ) (at k : ℕ) → n < 10 ^ 20 → suc k ≡ width 19 n → PuttingDigits n s at s at n k
+digits-start n s at k h e =
+    let w : Width n (suc k) = rw e (width-right 19 n h) in
+    record {
+      before = [];
+      all = decimal-wide n (suc k) w h;
+      few = omega (arith, width-most 19 n);
+      small = w .enough;
+      long = refl;
+      puts = puts-none s at;
+    }
+
+module _ {n : ℕ} {s : List ℕ} {at : ℕ} {out : List ℕ} {to left k : ℕ} (w : PuttingDigits n s at out to left k) where
+  -- one digit more
+  pub digits-more : (d rest : ℕ) {to′ : ℕ} {out′ : List ℕ} →
+      0 < k → left ≡ d * 10 ^ k + rest → rest < 10 ^ k → Puts out to ((48 + d) ∷ []) to′ out′ → PuttingDigits n s at out′ to′ rest (k - 1)
+  digits-more d rest h e l p =
+      let same : suc (k - 1) ≡ k = omega arith in
       record {
-        long = length-set row (i - 1) (48 + v % 10) ∙ r .long;
-        within = omega (arith, r .within);
-        small = omega (arith, r .small, div-le-self v 10);
-        text =
-            r .text
-            ∙ rw (decimal-last v ten (r .small), append-assoc, in-front row i (48 + v % 10) o (omega (arith, r .within, r .long))) refl;
+        before = w .before ++ ((48 + d) ∷ []);
+        all = w .all ∙ rw (digits-first k left d rest e l, same, append-assoc) refl;
+        few = omega (arith, w .few);
+        small = rw same l;
+        long = puts-length p ∙ w .long;
+        puts = puts-then (w .puts) p;
       }
 
-  -- with the first digit the row from there on is the number
-  pub row-all : v < 10 → take (20 - (i - 1)) (drop (i - 1) (set row (i - 1) (48 + v))) ≡ decimal n
-  row-all l =
-      let all = set row (i - 1) (48 + v) in
-      take-all (20 - (i - 1)) (drop (i - 1) all) (omega (arith, length-drop (i - 1) all, length-set row (i - 1) (48 + v), r .long))
-      ∙ in-front row i (48 + v) row-room (omega (arith, r .within, r .long))
-      ∙ sym (r .text ∙ rw (decimal-one v l) refl)
+  -- a single digit is left at the end
+  pub digits-last : k ≤ 0 → left < 10
+  digits-last h = let none : k ≡ 0 = omega arith in rw none at (w .small)
+
+  pub digits-done : {to′ : ℕ} {out′ : List ℕ} → k ≤ 0 → Puts out to ((48 + left) ∷ []) to′ out′ → Puts s at (decimal n) to′ out′
+  digits-done h p =
+      let none : k ≡ 0 = omega arith in
+      rw (w .all, none, digits-one left) (puts-then (w .puts) p)

@@ -1,3 +1,4 @@
 pub mod Decimal
 pub mod Key
 pub mod Number
+pub mod Starred

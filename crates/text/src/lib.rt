@@ -1,6 +1,6 @@
 // The bytes of a card: keys, words and decimal numbers, compared or read at a position and written to a position.
 ghost use mathlib.Core.Path.{_≡_};
-ghost use Prim.Native.Nat.{_<_};
+ghost use Prim.Native.Nat.{suc, _+_, _*_, _^_, _≤_, _<_};
 ghost use mathlib.Core.List.{[], _∷_};
 ghost use lib.ListN.{length, getD, drop};
 ghost use Rattle.laws.specs.Writing.{Puts};
@@ -8,7 +8,7 @@ ghost use Rattle.text.specs.declared.ByteClass.the-variants.{Digit};
 ghost use Rattle.text.specs.declared.NumberRead.the-variants.{Value};
 ghost use Rattle.text.specs.Key.{beginsWith};
 ghost use Rattle.text.specs.Number.{isDigit, classOf, separator, closed, fieldAt};
-ghost use Rattle.text.specs.Decimal.{decimal, field};
+ghost use Rattle.text.specs.Decimal.{width, decimal, field};
 
 // What a byte is to a reader of cards; the digits from 1 on with their value.
 enum ByteClass {
@@ -205,6 +205,87 @@ fn put_each(out: &mut [u8], at: usize, text: &[u8]) -> usize
     to
 }
 
+// The k-th power of ten.
+fn power(k: usize) -> u64
+    requires { ⌜ k ≤ 19 ⌝ }
+    ensures { λ r. ⌜ r ≡ 10 ^ k ⌝ }
+{
+    match k {
+        0 => 1,
+        1 => 10,
+        2 => 100,
+        3 => 1000,
+        4 => 10000,
+        5 => 100000,
+        6 => 1000000,
+        7 => 10000000,
+        8 => 100000000,
+        9 => 1000000000,
+        10 => 10000000000,
+        11 => 100000000000,
+        12 => 1000000000000,
+        13 => 10000000000000,
+        14 => 100000000000000,
+        15 => 1000000000000000,
+        16 => 10000000000000000,
+        17 => 100000000000000000,
+        18 => 1000000000000000000,
+        _ => 10000000000000000000,
+    }
+}
+
+// How often a power of ten was subtracted from a number, and what is left of it.
+struct Subtracted {
+    times: u8,
+    left: u64,
+}
+
+// A power of ten subtracted from a number as often as it can be, nine times at most.
+fn subtract(v: u64, p: u64) -> Subtracted
+    requires { ⌜ v < 10 * p ⌝ }
+    ensures { λ r. ⌜ (v ≡ r .times * p + r .left) × (r .left < p) ⌝ }
+{
+    let mut times: u8 = 0;
+    let mut left = v;
+    while p <= left {
+        left -= p;
+        times += 1;
+    }
+    Subtracted { times, left }
+}
+
+// The same, of the k-th power. The powers of the numbers on cards, which have eight digits at most, have an arm each, so that the compiler knows what is
+// subtracted.
+fn digit_at(v: u64, k: usize) -> Subtracted
+    requires { ⌜ (k ≤ 19) × (v < 10 ^ suc k) ⌝ }
+    ensures { λ r. ⌜ (v ≡ r .times * 10 ^ k + r .left) × (r .left < 10 ^ k) ⌝ }
+{
+    match k {
+        1 => subtract(v, power(1)),
+        2 => subtract(v, power(2)),
+        3 => subtract(v, power(3)),
+        4 => subtract(v, power(4)),
+        5 => subtract(v, power(5)),
+        6 => subtract(v, power(6)),
+        7 => subtract(v, power(7)),
+        _ => subtract(v, power(k)),
+    }
+}
+
+// The power of ten that the highest digit of a number counts.
+fn highest(n: u64) -> usize
+    ensures { λ r. ⌜ suc r ≡ width 19 n ⌝ }
+{
+    let mut k: usize = 0;
+    while k < 19 {
+        if n < power(k + 1) {
+            return k;
+        }
+        k += 1;
+    }
+    k
+}
+
 // A number written at a position, its highest digit first; the position behind it.
 pub fn put_number(out: &mut [u8], at: usize, n: u64) -> usize
     ensures { λ r. ⌜ Puts (now (out .entry)) at (decimal n) r (now (out .exit)) ⌝ }
@@ -213,32 +294,58 @@ pub fn put_number(out: &mut [u8], at: usize, n: u64) -> usize
         return put_byte(out, at, (48 + n) as u8);
     }
     if n < 100 {
-        if at < out.len() {
-            if 2 <= out.len() - at {
-                out[at] = (48 + n / 10) as u8;
-                out[at + 1] = (48 + n % 10) as u8;
-                return at + 2;
-            }
+        return put_two(out, at, n);
+    }
+    put_digits(out, at, n)
+}
+
+// The same, of a number of two digits: both at once where they fit.
+fn put_two(out: &mut [u8], at: usize, n: u64) -> usize
+    requires { ⌜ (10 ≤ n) × (n < 100) ⌝ }
+    ensures { λ r. ⌜ Puts (now (out .entry)) at (decimal n) r (now (out .exit)) ⌝ }
+{
+    if at < out.len() {
+        if 2 <= out.len() - at {
+            let d = subtract(n, 10);
+            out[at] = 48 + d.times;
+            out[at + 1] = (48 + d.left) as u8;
+            return at + 2;
         }
     }
     put_digits(out, at, n)
 }
 
-// The same, of any number: its digits from the lowest up, then copied.
+// The same, of any number: each digit is how often its power of ten can be subtracted from what the digits before it have left.
 fn put_digits(out: &mut [u8], at: usize, n: u64) -> usize
     ensures { λ r. ⌜ Puts (now (out .entry)) at (decimal n) r (now (out .exit)) ⌝ }
 {
-    let mut digits = [0u8; 20];
-    let mut v = n;
-    let mut i: usize = 20;
-    while 10 <= v {
-        i -= 1;
-        digits[i] = (48 + v % 10) as u8;
-        v = v / 10;
+    if 100 <= n {
+        if n < 1000 {
+            return put_three(out, at, n);
+        }
     }
-    i -= 1;
-    digits[i] = (48 + v) as u8;
-    put_bytes(out, at, &digits[i..])
+    let mut to = at;
+    let mut left = n;
+    let mut k = highest(n);
+    while 0 < k {
+        let d = digit_at(left, k);
+        to = put_byte(&mut *out, to, 48 + d.times);
+        left = d.left;
+        k -= 1;
+    }
+    put_byte(out, to, (48 + left) as u8)
+}
+
+// The same, of a number of three digits, as larger weights and tokens have.
+fn put_three(out: &mut [u8], at: usize, n: u64) -> usize
+    requires { ⌜ (100 ≤ n) × (n < 1000) ⌝ }
+    ensures { λ r. ⌜ Puts (now (out .entry)) at (decimal n) r (now (out .exit)) ⌝ }
+{
+    let hundreds = subtract(n, 100);
+    let tens = subtract(hundreds.left, 10);
+    let second = put_byte(&mut *out, at, 48 + hundreds.times);
+    let third = put_byte(&mut *out, second, 48 + tens.times);
+    put_byte(out, third, (48 + tens.left) as u8)
 }
 
 // A number and its separator written at a position; the position behind both.

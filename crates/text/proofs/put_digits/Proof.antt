@@ -1,58 +1,55 @@
--- The loop keeps the row (`Row`): the digits in it are the last of n, and those of v are left. Behind the loop v is the first digit.
-use Prim.Native.Nat.{_-_, _+_, _≤_}
+-- The loop keeps `PuttingDigits`: what has been put and the digits of what is left are together those of n. A number of three digits is put apart.
+use Prim.Native.Nat.{_^_, _<_}
 use native.Mathlib.Omega.{arith}
-use mathlib.Core.Path.{_≡_, refl}
-use lib.ListN.{take, drop, set, length-set}
+use mathlib.Core.Path.{refl}
 use borrow.Author.Needs.{needs}
-use Rattle.text.specs.Decimal.{decimal}
-use Rattle.text.proofs.WriteNumber.{Row, row-start, row-room, row-more, row-all}
+use Rattle.text.proofs.WriteNumber.{PuttingDigits, digits-start, digits-more, digits-last, digits-done, times-digit, below-ten}
 use Rattle.text.proofs.put_digits.Statement.{statement}
 use Rattle.text.proofs.put_digits.Tie as tie
 
 abbrev Inv-loop : tie.InvT-loop
-Inv-loop out at n digits₀ v₀ i₀ digits v i = Row n digits v i
+Inv-loop out₀ at n to₀ left₀ k₀ out to left k = PuttingDigits n out₀ at out to left k
 
 abbrev μ-loop : tie.MeasureT-loop
-μ-loop out at n digits₀ v₀ i₀ digits v i = i
-
--- there is room for the next digit
-room : (c : tie.At-loop Inv-loop μ-loop) → 1 ≤ c .loop .i
-room c = row-room (c .before .before .args .n) (c .loop .digits) (c .loop .v) (c .loop .i) (c .loop .inv)
-
--- what is copied is the number
-copied : (c : tie.After-loop Inv-loop μ-loop) →
-    take (20 - (c .before .loop .i - 1)) (drop (c .before .loop .i - 1) (set (c .before .loop .digits) (c .before .loop .i - 1) (48 + c .before .loop .v)))
-    ≡ decimal (c .before .before .before .args .n)
-copied c =
-    let l = c .before .loop in
-    row-all (c .before .before .before .args .n) (l .digits) (l .v) (l .i) (l .inv) (c .loop-test .left)
+μ-loop out₀ at n to₀ left₀ k₀ out to left k = k
 
 loop-holds : tie.Need-loop-holds Inv-loop μ-loop
-loop-holds c = row-start _ _ (omega arith) refl refl
+loop-holds c = let a = c .before .before .before .args in digits-start (a .n) (a .out .now) (a .at) (c .highest .result) (omega arith) (c .highest .ensures)
 
-sub-i : tie.Need-sub-i Inv-loop μ-loop
-sub-i c = room (c .before)
+digit-at-requires : tie.Need-digit-at-requires Inv-loop μ-loop
+digit-at-requires c κs = let w = c .before .loop .inv in (w .few, w .small)
 
-loop-less : tie.Need-loop-less Inv-loop μ-loop
-loop-less c = omega (arith, room (c .before))
+add-put-byte : tie.Need-add-put-byte Inv-loop μ-loop
+add-put-byte c =
+    let d = c .before .before in
+    let l = d .before .before .loop in
+    omega (
+      arith,
+      times-digit (l .left) (10 ^ l .k) (d .digit-at .result .times) (d .digit-at .result .left) (d .digit-at .ensures .0)
+          (below-ten (l .left) (l .k) (10 ^ l .k) refl (l .inv .small)),
+    )
 
 loop-again : tie.Need-loop-again Inv-loop μ-loop
-loop-again c = let l = c .before .loop in row-more (c .before .before .before .args .n) (l .digits) (l .v) (l .i) (l .inv) (c .loop-test .taken)
+loop-again c =
+    let p = c .before .before in
+    let d = p .before .before .before in
+    let i = d .before in
+    digits-more (i .before .loop .inv) (d .digit-at .result .times) (d .digit-at .result .left) (i .loop-test .taken) (d .digit-at .ensures .0)
+    (d .digit-at .ensures .1) (p .put-byte .ensures)
 
-sub-i-2 : tie.Need-sub-i-2 Inv-loop μ-loop
-sub-i-2 c = room (c .before)
+-- what is left behind the loop is a digit
+last : (c : tie.After-loop Inv-loop μ-loop) → c .before .loop .left < 10
+last c = digits-last (c .before .loop .inv) (c .loop-test .left)
 
-part-put-bytes-end : tie.Need-part-put-bytes-end Inv-loop μ-loop
-part-put-bytes-end c =
-    let l = c .before .before .before .loop in
-    omega (arith, length-set (l .digits) (l .i - 1) (48 + l .v), l .inv .long)
-
-returns : tie.Need-returns Inv-loop μ-loop
-returns c = rw (copied (c .before .before .before .before .before .before)) at (c .before .before .put-bytes .ensures)
+returns-2 : tie.Need-returns-2 Inv-loop μ-loop
+returns-2 c =
+    let p = c .before .before in
+    let e = p .before .before in
+    digits-done (e .before .loop .inv) (e .loop-test .left) (p .put-byte2 .ensures)
 
 pub put-digits-spec : {M : Type 1} → statement M
 put-digits-spec =
     tie.close
-    (tie.spec Inv-loop μ-loop loop-holds sub-i (λ c. search needs) (λ c. search needs) (λ c. search needs) loop-less loop-again sub-i-2
-    (λ c. search needs) (λ c. search needs) (λ c. search needs) (λ c. search needs) (λ c. search needs) part-put-bytes-end (λ c κs. search needs)
-    (λ c. search needs) returns)
+    (tie.spec Inv-loop μ-loop (λ c κs. search needs) (λ c. search needs) (λ c. search needs) (λ c κs. search needs) loop-holds digit-at-requires
+    add-put-byte (λ c κs. search needs) (λ c. search needs) (λ c. search needs) loop-again (λ c. omega (arith, last (c .before)))
+    (λ c. omega (arith, last (c .before))) (λ c κs. search needs) (λ c. search needs) returns-2)
