@@ -1,12 +1,13 @@
 //! Seeded inputs for the six operations: nets with runs, orders, pairs of runs or a second net that are
 //! accepted often, near misses, orders that are hard to time, cards on another sheet, damaged cards and
-//! junk.
+//! junk. And open runs: an opening and steps of every kind, and what the program `live` may be given.
 //!
 //! An input depends on its seed and index only, so each can be made again alone.
 
 mod damage;
 mod hard;
 mod join;
+mod live;
 mod pair;
 mod rng;
 mod sheet;
@@ -18,6 +19,7 @@ use std::collections::BTreeSet;
 pub use damage::{damage, junk};
 pub use hard::{bends_to_the_last, drift_to_the_last, hard_order, most_sweeps};
 pub use join::{large_nets, list_line, nets, nets_apart, other_nets, two_nets, Nets};
+pub use live::{large_open_run, script, session, with_opening, Script, Turn};
 pub use pair::{
     beside_timetable, large_pair, near_pair, other_pair, pair, runs_of_one_order, with_pair,
 };
@@ -32,8 +34,7 @@ pub struct Input {
 
 /// The input at an index of a seed.
 pub fn input(seed: u64, index: u64) -> Input {
-    let mut rng = Rng::new(Rng::new(seed).draw() ^ index.wrapping_mul(0xd134_2543_de82_ef95));
-    let rng = &mut rng;
+    let rng = &mut Rng::at(seed, index);
     let (kind, bytes) = match rng.below(100) {
         0..=13 => ("run", text_of_run(rng, false)),
         14..=22 => ("near run", text_of_run(rng, true)),

@@ -1,9 +1,11 @@
-//! The six operations once more, slowly and as close to the paper's words as possible: lines are
+//! The six operations and open runs once more, slowly and as close to the paper's words as possible: lines are
 //! split before they are judged, clocks are kept as such, timetables come from Bellman and Ford's
 //! passes over all bounds of each prefix, tokens are queued one by one, instants are ranked as
 //! fractions in lowest terms, and a joined net is gathered place by place from the two it is made of.
 //!
 //! The models of nets, runs and orders here also serve the generator.
+
+pub mod live;
 
 use std::collections::{BTreeSet, VecDeque};
 use std::fmt::Write;

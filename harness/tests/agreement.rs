@@ -1,23 +1,27 @@
 //! The plain version against the naive one, byte by byte, over generated inputs of all kinds.
 
-use harness::{gen, Outcome, LONGEST, NAIVE, OPERATIONS, PLAIN};
+use harness::{gen, name, Engine, Outcome, FUNCTIONS, LONGEST, NAIVE, PLAIN};
+
+/// A number for the steps of open runs.
+fn number(index: u64) -> u32 {
+    [0, 1, 2, 31, 10_000_000, u32::MAX][index as usize % 6]
+}
 
 /// The result and the output of a call into an output of this length, filled beforehand.
-fn call(operation: harness::Operation, input: &[u8], length: usize) -> (i64, Vec<u8>) {
+fn call(engine: &Engine, at: usize, index: u64, input: &[u8], length: usize) -> (i64, Vec<u8>) {
     let mut output: Vec<u8> = (0..length).map(|at| (at * 7 + 1) as u8).collect();
-    (operation(input, &mut output), output)
+    (engine.call(at, number(index), input, &mut output), output)
 }
 
 #[test]
 fn plain_and_naive_agree() {
-    let mut refusals = [0; 15];
+    let mut refusals = [0; 16];
     let mut answers = 0;
     for index in 0..6_000 {
         let input = gen::input(99, index).bytes;
-        for (at, name) in OPERATIONS.iter().enumerate() {
-            let (plain, naive) = (PLAIN.operations[at], NAIVE.operations[at]);
+        for at in 0..FUNCTIONS {
             let mut lengths = vec![LONGEST, 0];
-            match Outcome::of(plain(&input, &mut [0; LONGEST])) {
+            match Outcome::of(PLAIN.call(at, number(index), &input, &mut [0; LONGEST])) {
                 Outcome::Answer { length } => {
                     answers += 1;
                     refusals[9] += 1;
@@ -26,11 +30,12 @@ fn plain_and_naive_agree() {
                 Outcome::Refusal { number, .. } => refusals[number as usize] += 1,
             }
             for length in lengths {
-                let expected = call(naive, &input, length);
-                let found = call(plain, &input, length);
+                let expected = call(&NAIVE, at, index, &input, length);
+                let found = call(&PLAIN, at, index, &input, length);
                 assert!(
                     found == expected,
-                    "{name} of {} into {length}: {} and {}",
+                    "{} of {} into {length}: {} and {}",
+                    name(at),
                     input.escape_ascii(),
                     found.0,
                     expected.0
@@ -49,8 +54,8 @@ fn plain_and_naive_agree() {
 fn the_bytes_behind_an_answer_stay() {
     for index in 0..300 {
         let input = gen::input(5, index).bytes;
-        for operation in PLAIN.operations {
-            let (result, output) = call(operation, &input, LONGEST);
+        for at in 0..FUNCTIONS {
+            let (result, output) = call(&PLAIN, at, index, &input, LONGEST);
             let written = match Outcome::of(result) {
                 Outcome::Answer { length } => length,
                 Outcome::Refusal { .. } => 0,

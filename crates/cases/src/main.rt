@@ -2,6 +2,7 @@
 // each file how many cases there are and how many were wrong. A case that cannot be read gets 1 at 0.
 mod change;
 mod lines;
+mod live;
 mod parts;
 mod trial;
 
@@ -86,4 +87,5 @@ fn main() {
     run_file(b"rank");
     run_file(b"join");
     run_file(b"join-drawn");
+    run_file(b"live");
 }

@@ -10,6 +10,7 @@ pub enum Operation {
     Process,
     Rank,
     Join,
+    Open,
     Net,
     NetValue,
     Run,
@@ -23,6 +24,8 @@ pub enum Operation {
     JoinOther,
     ReadRun,
     ReadOrder,
+    OpenValue,
+    LiveValue,
     Unknown,
 }
 
@@ -37,14 +40,14 @@ pub struct Case {
     pub end: usize,
 }
 
-// The number of the operation that the line at a position names: below 9 it has no changes, from 16 on it has a card.
+// The number of the operation that the line at a position names: below 10 it has no changes, from 17 on it has a card.
 fn operation_at(s: &[u8], at: usize) -> usize {
     lines::word_at(
         s,
         at,
-        b"replay ;round ;timetable ;process ;rank ;join ;net ;run ;order ;\
+        b"replay ;round ;timetable ;process ;rank ;join ;open ;net ;run ;order ;\
         netvalue ;runvalue ;ordervalue ;replayvalue ;roundvalue ;timetablevalue ;processvalue ;\
-        rankvalue ;joinvalue ;joinother ;readrun ;readorder ;",
+        rankvalue ;joinvalue ;joinother ;readrun ;readorder ;openvalue ;livevalue ;",
     )
 }
 
@@ -57,19 +60,22 @@ fn operation_of(number: usize) -> Operation {
         3 => Operation::Process,
         4 => Operation::Rank,
         5 => Operation::Join,
-        6 => Operation::Net,
-        7 | 10 => Operation::Run,
-        8 | 11 => Operation::Order,
-        9 => Operation::NetValue,
-        12 => Operation::ReplayValue,
-        13 => Operation::RoundValue,
-        14 => Operation::TimetableValue,
-        15 => Operation::ProcessValue,
-        16 => Operation::RankValue,
-        17 => Operation::JoinValue,
-        18 => Operation::JoinOther,
-        19 => Operation::ReadRun,
-        20 => Operation::ReadOrder,
+        6 => Operation::Open,
+        7 => Operation::Net,
+        8 | 11 => Operation::Run,
+        9 | 12 => Operation::Order,
+        10 => Operation::NetValue,
+        13 => Operation::ReplayValue,
+        14 => Operation::RoundValue,
+        15 => Operation::TimetableValue,
+        16 => Operation::ProcessValue,
+        17 => Operation::RankValue,
+        18 => Operation::JoinValue,
+        19 => Operation::JoinOther,
+        20 => Operation::ReadRun,
+        21 => Operation::ReadOrder,
+        22 => Operation::OpenValue,
+        23 => Operation::LiveValue,
         _ => Operation::Unknown,
     }
 }
@@ -86,13 +92,13 @@ fn line_before(s: &[u8], from: usize, line: &[u8], wanted: bool, end: usize) -> 
 pub(crate) fn case_at(s: &[u8], at: usize) -> Case {
     let number = operation_at(s, at);
     let expect = lines::line_at(s, at, b"expect\n");
-    let with = line_before(s, at, b"with\n", 9 <= number, expect);
+    let with = line_before(s, at, b"with\n", 10 <= number, expect);
     Case {
         operation: operation_of(number),
         size: lines::number(s, lines::behind(s, at, 32)) as usize,
         at,
         with,
-        card: line_before(s, with, b"card\n", 16 <= number, expect),
+        card: line_before(s, with, b"card\n", 17 <= number, expect),
         expect,
         end: lines::line_at(s, expect, b"end\n"),
     }

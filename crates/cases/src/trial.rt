@@ -2,6 +2,7 @@
 use super::change;
 use super::change::Values;
 use super::lines;
+use super::live;
 use super::parts::Case;
 use super::parts::Operation;
 use form::LineRead;
@@ -20,7 +21,7 @@ fn pattern(i: usize) -> u8 {
 }
 
 // A buffer for an output, with the pattern.
-fn prepared() -> [u8; 16384]
+pub(crate) fn prepared() -> [u8; 16384]
     ensures { λ r. ⌜ 16384 ≡ length r ⌝ }
 {
     let mut out = [0u8; 16384];
@@ -45,20 +46,20 @@ fn touched_at(out: &[u8], from: usize) -> usize {
 }
 
 // The lines of a refusal.
-fn put_refusal(got: &mut [u8], why: Refusal) -> usize {
-    let to = form::put_number_line(&mut *got, 0, b"refused=", reply::number_of(why) as u64);
+pub(crate) fn put_refusal(got: &mut [u8], at: usize, why: Refusal) -> usize {
+    let to = form::put_number_line(&mut *got, at, b"refused=", reply::number_of(why) as u64);
     form::put_number_line(got, to, b"place=", reply::position_of(why) as u64)
 }
 
 // The answer or the refusal, and a line for a byte of the output that was touched besides, where there is one.
-fn put_reply(got: &mut [u8], r: Reply, out: &[u8]) -> usize {
+pub(crate) fn put_reply(got: &mut [u8], at: usize, r: Reply, out: &[u8]) -> usize {
     match r {
         Reply::Refused(why) => {
-            let to = put_refusal(&mut *got, why);
+            let to = put_refusal(&mut *got, at, why);
             put_touched(got, to, out, 0)
         }
         Reply::Written(n) => {
-            let to = text::put_bytes(&mut *got, 0, lines::part(out, 0, n));
+            let to = text::put_bytes(&mut *got, at, lines::part(out, 0, n));
             put_touched(got, to, out, n)
         }
     }
@@ -253,6 +254,7 @@ fn reply_of(
         Operation::Process => engine::process_cards(input, out),
         Operation::Rank => ranking::rank_cards(input, out),
         Operation::Join => joining::join_cards(input, out),
+        Operation::Open => open_cards::open_cards(input, out),
         _ => {
             let v = change::changed(values_of(operation, input, card), operation, changes);
             of_values(operation, with_card(operation, v, card), card, out)
@@ -283,12 +285,57 @@ fn reply_text(
     got: &mut [u8],
 ) -> usize {
     if 16384 < size {
-        return put_refusal(got, Refusal::Malformed(0));
+        return put_refusal(got, 0, Refusal::Malformed(0));
     }
     let mut lent = prepared();
     let r = reply_of(operation, input, changes, card, &mut lent[..size]);
-    let to = put_reply(&mut *got, r, &lent[..size]);
+    let to = put_reply(&mut *got, 0, r, &lent[..size]);
     put_left(got, to, operation, input)
+}
+
+// What the lines of an open run are answered: of a record that is made of the values, or of one that is opened on the net with the run's word and denominator.
+fn live_text(
+    operation: Operation,
+    size: usize,
+    input: &[u8],
+    changes: &[u8],
+    script: &[u8],
+    got: &mut [u8],
+) -> usize {
+    let v = change::changed(values_of(operation, input, script), operation, changes);
+    let read = v.read;
+    match read {
+        LineRead::Stopped(why) => put_refusal(got, 0, why),
+        LineRead::Next(_) => match operation {
+            Operation::OpenValue => {
+                let q = v.run;
+                let memory = q.memory;
+                let e = entering::open_on(v.net, memory, q.denominator);
+                let c = e.checked;
+                let run = e.run;
+                let to = live::put_checked(&mut *got, 0, c);
+                live::put_answers(got, to, run, size, script)
+            }
+            _ => live::put_answers(got, 0, live::record(v.net, v.run), size, script),
+        },
+    }
+}
+
+// What a case says.
+fn case_text(
+    operation: Operation,
+    size: usize,
+    input: &[u8],
+    changes: &[u8],
+    card: &[u8],
+    got: &mut [u8],
+) -> usize {
+    match operation {
+        Operation::OpenValue | Operation::LiveValue => {
+            live_text(operation, size, input, changes, card, got)
+        }
+        _ => reply_text(operation, size, input, changes, card, got),
+    }
 }
 
 // Runs a case: what it got, as text, and how long that is.
@@ -301,7 +348,7 @@ pub(crate) fn outcome(s: &[u8], case: Case, got: &mut [u8]) -> usize {
     if (16384 < i) | (16384 < c) | (s.len() <= case.end) {
         operation = Operation::Unknown;
     }
-    reply_text(
+    case_text(
         operation,
         case.size,
         lines::front(&input, i),

@@ -39,7 +39,7 @@ fn respond_run(run: Run, out: &mut [u8]) -> Reply
 }
 
 // The end of a replay as the answer.
-fn respond_end(net: Net, st: State, out: &mut [u8]) -> Reply
+pub fn respond_end(net: Net, st: State, out: &mut [u8]) -> Reply
     ensures { λ r. ⌜ Responded (answer (endText net (view st))) (now (out .entry)) r (now (out .exit)) ⌝ }
 {
     if 1280 <= out.len() {

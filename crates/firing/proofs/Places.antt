@@ -18,7 +18,7 @@ use Rattle.firing.specs.Replay.{replay}
 use Rattle.firing.specs.Claims.{Because}
 use Rattle.firing.proofs.Accept.{refused-first}
 
-because-place : (net : Net) (D : ℕ) (r : Refusal) (n : ℕ) (S : Timed) (t : ℕ) → Because net D r n S t → positionOf r ≡ n
+pub because-place : (net : Net) (D : ℕ) (r : Refusal) (n : ℕ) (S : Timed) (t : ℕ) → Because net D r n S t → positionOf r ≡ n
 because-place net D r n S t (inl b) = ap positionOf (b .0)
 because-place net D r n S t (inr (inl b)) = ap positionOf (b .0)
 because-place net D r n S t (inr (inr b)) = ap positionOf (b .0)

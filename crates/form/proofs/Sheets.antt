@@ -70,7 +70,7 @@ module _ (own : ℕ) where
   sheet-same n line p = eqb-true n own (test-passed (eqb n own) (AnotherSheet line) (also-second (ranged 0 9999 n line) _ p))
 
   -- the line refuses itself
-  sheet-own : OwnLine (sheetChecked own)
+  pub sheet-own : OwnLine (sheetChecked own)
   sheet-own n line r = go (leb 0 n && leb n 9999) (eqb n own)
     where
       go : (a b : Bool) → also (cond a Passed (Refused (OutOfRange line))) (cond b Passed (Refused (AnotherSheet line))) ≡ Refused r → positionOf r ≡ line

@@ -34,6 +34,10 @@ pub each-append : {A : Type 0} (P : A → Type 0) (l m : List A) → Each P l �
 each-append P [] m h k = k
 each-append P (a ∷ l) m h k = (h .0, each-append P l m (h .1) k)
 
+pub each-last : {A : Type 0} (P : A → Type 0) (l : List A) (a : A) → Each P (l ++ (a ∷ [])) → P a
+each-last P [] a h = h .0
+each-last P (b ∷ l) a h = each-last P l a (h .1)
+
 pub each-replicate : {A : Type 0} (P : A → Type 0) (a : A) → P a → (n : ℕ) → Each P (replicate n a)
 each-replicate P a h zero = tt
 each-replicate P a h (suc n) = (h, each-replicate P a h n)

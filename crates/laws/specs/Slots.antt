@@ -101,6 +101,13 @@ module _ {ℓ} {A : Type ℓ} where
       let one-more : take i l ++ (a ∷ []) ≡ take (i + 1) l = rw add-one (sym (take-suc l i d h)) in
       ap (λ (k : ℕ). set (padTo size d (take i l)) k a) (sym so-far) ∙ pad-more size d (take i l) a (omega arith) ∙ ap (padTo size d) one-more
 
+  -- a store behind the counted slots
+  pub first-set : (n : ℕ) (d a : A) (l : List A) → n < length l → firstOf (suc n) d (set l n a) ≡ firstOf n d l ++ (a ∷ [])
+  unfolding firstOf
+  first-set n d a [] h = absurd (not-suc-le-zero h)
+  first-set zero d a (b ∷ l) h = refl
+  first-set (suc n) d a (b ∷ l) h = ap (λ (k : List A). b ∷ k) (first-set n d a l (le-of-suc-le-suc h))
+
   pub first-next : (n : ℕ) (d : A) (l : List A) (i : ℕ) → i < n → drop i (firstOf n d l) ≡ getD l i d ∷ drop (i + 1) (firstOf n d l)
   first-next n d l i h =
       rw add-one (drop-cons (firstOf n d l) i d (omega (arith, length-first n d l)) ∙ ap (λ (a : A). a ∷ drop (suc i) (firstOf n d l)) (getD-first n d l i h))
@@ -126,8 +133,8 @@ mapped-same {A} f n d l m h =
     there : (x : List A) (i : ℕ) → i < n → getD (map f (firstOf n d x)) i (f d) ≡ f (getD x i d)
     there x i k = List·getD-map f (firstOf n d x) i d ∙ ap f (getD-first n d x i k)
 
-pub first-mapped : {A : Type 0} (f : A → A) (n : ℕ) (d : A) → f d ≡ d → (l : List A) → firstOf n d (map f l) ≡ map f (firstOf n d l)
+pub first-mapped : {A B : Type 0} (f : A → B) (n : ℕ) (d : A) {e : B} → f d ≡ e → (l : List A) → firstOf n e (map f l) ≡ map f (firstOf n d l)
 unfolding firstOf
-first-mapped f zero d e l = refl
-first-mapped f (suc n) d e [] = λ i. sym e i ∷ first-mapped f n d e [] i
-first-mapped f (suc n) d e (a ∷ l) = ap (λ (m : List _). f a ∷ m) (first-mapped f n d e l)
+first-mapped f zero d p l = refl
+first-mapped f (suc n) d p [] = λ i. sym p i ∷ first-mapped f n d p [] i
+first-mapped f (suc n) d p (a ∷ l) = ap (λ (m : List _). f a ∷ m) (first-mapped f n d p l)

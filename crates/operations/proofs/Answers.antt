@@ -82,22 +82,22 @@ once-answered c o = (
 -- ---- the work on a run that passed its check: refused as its replay is, and else answered
 module _ (net : Net) (r : Run) where
   -- the replay under the memory word of the run
-  abbrev pub replayed : Played
-  replayed = replay net (ruleOf (arcsOf net) (r .memory)) r
+  abbrev pub played : Played
+  played = replay net (ruleOf (arcsOf net) (r .memory)) r
 
-  pub work-refused : (what : OnRun) (e : Refusal) → (workOf what net r ≡ refusal e) ↔ (replayed .checked ≡ checked.Refused e)
-  work-refused replaying e = go (replayed .checked)
+  pub work-refused : (what : OnRun) (e : Refusal) → (workOf what net r ≡ refusal e) ↔ (played .checked ≡ checked.Refused e)
+  work-refused replaying e = go (played .checked)
     where
-      go : (c : Checked) → (ended net c (replayed .state) ≡ refusal e) ↔ (c ≡ checked.Refused e)
+      go : (c : Checked) → (ended net c (played .state) ≡ refusal e) ↔ (c ≡ checked.Refused e)
       go checked.Passed = (λ q. absurd (no-answer (sym q)), λ q. let z : _≡_ {A = ℕ} 0 1 = cc in absurd (omega arith))
       go (checked.Refused q) = (λ p. cc, λ p. cc)
-  work-refused rounding e = once-refusal (replayed .checked) _ e
-  work-refused processing e = once-refusal (replayed .checked) _ e
+  work-refused rounding e = once-refusal (played .checked) _ e
+  work-refused processing e = once-refusal (played .checked) _ e
 
-  pub work-answered : (what : OnRun) → Answered (workOf what net r) ↔ (replayed .checked ≡ checked.Passed)
-  work-answered replaying = end-answered net (replayed .checked) (replayed .state)
-  work-answered rounding = (λ a. once-answered (replayed .checked) _ .0 a .0, λ p. once-answered (replayed .checked) _ .1 (p, (_, refl)))
-  work-answered processing = (λ a. once-answered (replayed .checked) _ .0 a .0, λ p. once-answered (replayed .checked) _ .1 (p, (_, refl)))
+  pub work-answered : (what : OnRun) → Answered (workOf what net r) ↔ (played .checked ≡ checked.Passed)
+  work-answered replaying = end-answered net (played .checked) (played .state)
+  work-answered rounding = (λ a. once-answered (played .checked) _ .0 a .0, λ p. once-answered (played .checked) _ .1 (p, (_, refl)))
+  work-answered processing = (λ a. once-answered (played .checked) _ .0 a .0, λ p. once-answered (played .checked) _ .1 (p, (_, refl)))
 
 -- ---- a schedule
 module _ (net : Net) (o : Order) where

@@ -21,6 +21,7 @@ use Rattle.form.proofs.Items.{length-items}
 use Rattle.net.specs.declared.Net.{Net}
 use Rattle.reply.proofs.Laws.{written-answer}
 use Rattle.run.specs.declared.Run.{Run}
+use Rattle.run.specs.declared.Order.{Order}
 use Rattle.run.specs.Run.{runCard, firingsOf, orderOf}
 use Rattle.firing.specs.declared.State.{State}
 use Rattle.firing.specs.Semantics.{arcsOf, Restart, Timed, enabled, ruleOf}
@@ -28,13 +29,13 @@ use Rattle.firing.specs.Replay.{replay}
 use Rattle.firing.specs.Claims.{view}
 use Rattle.firing.proofs.Clocks.{few-places, few-transitions}
 use Rattle.causal.specs.Print.{processText}
-use Rattle.cards.specs.Cards.{cardOf, runChecked, runCards, orderCards}
+use Rattle.cards.specs.Cards.{cardOf, runChecked, orderChecked, runCards, orderCards}
 use Rattle.cards.proofs.Cards.{run-short, run-written-again, run-cards-passed, order-cards-passed}
 use Rattle.operations.specs.Operation.{onceRead}
-use Rattle.operations.specs.Replay.{clockText, clocksText, endText, ended, replayCards}
+use Rattle.operations.specs.Replay.{clockText, clocksText, endText, ended, replayOf, replayCards}
 use Rattle.operations.specs.Round.{roundCards}
 use Rattle.operations.specs.Process.{processCards}
-use Rattle.operations.specs.Timetable.{timetableCards}
+use Rattle.operations.specs.Timetable.{timetableOf, timetableCards}
 use Rattle.operations.specs.Outcomes.{replaying, rounding, processing}
 use Rattle.operations.specs.Claims.{WholeTickRun}
 use Rattle.operations.proofs.Answers.{once-answer}
@@ -82,11 +83,13 @@ ended-short net st checked.Passed text e =
     rw (← same) (end-fits net (view st))
 ended-short net st (checked.Refused r) text e = let z : _≡_ {A = ℕ} 0 1 = cc in absurd (omega arith)
 
+pub end-short : (net : Net) (r : Run) (text : List ℕ) → replayOf net r ≡ answer text → length text ≤ 1280
+end-short net r text =
+    let end = replay net (ruleOf (arcsOf net) (r .memory)) r in
+    ended-short net (end .state) (end .checked) text
+
 pub replay-short : (s text : List ℕ) → replayCards s ≡ answer text → length text ≤ 1280
-replay-short s text =
-    once-read (runCards s) _ (λ v next e q.
-    let end = replay (v .0) (ruleOf (arcsOf (v .0)) (v .1 .memory)) (v .1) in
-    ended-short (v .0) (end .state) (end .checked) text q)
+replay-short s text = once-read (runCards s) _ (λ v next e q. end-short (v .0) (v .1) text q)
 
 -- ---- the card of a run
 card-short : (net : Net) (restarts : Restart) (bytes : List ℕ) (r : Run) → WholeTickRun net restarts bytes r → length bytes ≤ 2048
@@ -101,12 +104,14 @@ round-short s bytes =
     let (r, whole, same) = round-whole (v .0) rule (v .1) (run-cards-passed s e) bytes q in
     card-short (v .0) rule bytes r whole)
 
+pub timetable-fits : (net : Net) (o : Order) → orderChecked net o ≡ checked.Passed → (bytes : List ℕ) → timetableOf net o ≡ answer bytes → length bytes ≤ 2048
+timetable-fits net o p bytes q =
+    let rule = ruleOf (arcsOf net) (o .memory) in
+    let (r, whole, early) = timetable-earliest net rule o p bytes q in
+    card-short net rule bytes r whole
+
 pub timetable-short : (s bytes : List ℕ) → timetableCards s ≡ answer bytes → length bytes ≤ 2048
-timetable-short s bytes =
-    once-read (orderCards s) _ (λ v next e q.
-    let rule = ruleOf (arcsOf (v .0)) (v .1 .memory) in
-    let (r, whole, early) = timetable-earliest (v .0) rule (v .1) (order-cards-passed s e) bytes q in
-    card-short (v .0) rule bytes r whole)
+timetable-short s bytes = once-read (orderCards s) _ (λ v next e q. timetable-fits (v .0) (v .1) (order-cards-passed s e) bytes q)
 
 -- ---- the process
 pub process-short : (s bytes : List ℕ) → processCards s ≡ answer bytes → length bytes ≤ 22001

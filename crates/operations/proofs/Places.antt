@@ -43,7 +43,7 @@ abbrev pub Place : Refusal → Type 0
 Place r = (0 < positionOf r) × (positionOf r ≤ 147)
 
 -- a replay refuses as 5, 6 or 7
-because-number : (net : Net) (D : ℕ) (r : Refusal) (n : ℕ) (S : Timed) (t : ℕ) → Because net D r n S t → numberOf r ≤ 7
+pub because-number : (net : Net) (D : ℕ) (r : Refusal) (n : ℕ) (S : Timed) (t : ℕ) → Because net D r n S t → numberOf r ≤ 7
 because-number net D r n S t (inl b) = omega (arith, ap numberOf (b .0))
 because-number net D r n S t (inr (inl b)) = omega (arith, ap numberOf (b .0))
 because-number net D r n S t (inr (inr b)) = omega (arith, ap numberOf (b .0))

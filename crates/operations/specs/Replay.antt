@@ -31,6 +31,10 @@ clocksText net S (suc u) = clocksText net S u ++ clockText net S u
 abbrev pub endText : Net → Timed → List ℕ
 endText net S = bytes "end=" ++ itemsText (firstOf (arcsOf net .places) 0 (S .marking)) ++ clocksText net S (arcsOf net .transitions)
 
+-- what the replay of a run says, under its memory word
+abbrev pub replayed : Net → Run → Checked
+replayed net r = replay net (ruleOf (arcsOf net) (r .memory)) r .checked
+
 -- what a replay comes to: its end, or the first refusal
 abbrev pub ended : Net → Checked → State → Outcome
 ended net Passed st = answer (endText net (view st))

@@ -20,7 +20,8 @@ use Rattle.cards.proofs.Places.{two-runs-placed}
 use Rattle.cards.proofs.TwoRuns.{two-runs-was}
 use Rattle.operations.proofs.Lengths.{once-read}
 use Rattle.operations.proofs.Places.{Place, once-refused, line-place}
-use Rattle.ranking.specs.Ranking.{replayed, rankOf, printed, rankCards}
+use Rattle.operations.specs.Replay.{replayed}
+use Rattle.ranking.specs.Ranking.{rankOf, printed, rankCards}
 use Rattle.ranking.specs.Request.{RankReplies}
 use Rattle.ranking.proofs.Compared.{few-firings, rankable-exactly, printed-rankable, printed-refused, ready, refused-cases}
 use Rattle.ranking.proofs.Crossing.{lead-small}

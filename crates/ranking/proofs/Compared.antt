@@ -21,11 +21,12 @@ use Rattle.run.proofs.Firings.{length-firings}
 use Rattle.cards.specs.Cards.{cardOf, runChecked, twoRunsChecked}
 use Rattle.cards.proofs.Cards.{run-counts}
 use Rattle.operations.proofs.Answers.{no-answer}
+use Rattle.operations.specs.Replay.{replayed}
 use Rattle.ranking.specs.declared.Ranking.{Ranking}
 use Rattle.ranking.specs.declared.Ranking.the-variants.{Ranked, Refused}
 use Rattle.ranking.specs.Lead.{ofOneOrder, leadOf, signOf}
 use Rattle.ranking.specs.Claims.{OfOneOrder}
-use Rattle.ranking.specs.Ranking.{replayed, rankable, rankedIf, rankOf, rankValues, printed}
+use Rattle.ranking.specs.Ranking.{rankable, rankedIf, rankOf, rankValues, printed}
 use Rattle.ranking.proofs.Leads.{of-one-order-exactly}
 use Rattle.ranking.proofs.Ranks.{one-length}
 

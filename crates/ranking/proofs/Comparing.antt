@@ -24,7 +24,7 @@ use Rattle.firing.proofs.Accept.{replay-plays}
 use Rattle.run.proofs.Firings.{length-firings, fire-at}
 use Rattle.timing.proofs.Meet.{length-order}
 use Rattle.cards.specs.Cards.{cardOf, runChecked, twoRunsChecked}
-use Rattle.ranking.specs.Ranking.{replayed}
+use Rattle.operations.specs.Replay.{replayed}
 use Rattle.ranking.proofs.Ranks.{order-length}
 
 -- ---- the order of firings

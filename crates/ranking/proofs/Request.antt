@@ -40,9 +40,10 @@ use Rattle.operations.specs.Requests.{Elsewhere}
 use Rattle.operations.proofs.Answers.{no-answer, once-answer}
 use Rattle.operations.proofs.Places.{once-refused, replay-number}
 use Rattle.operations.proofs.Demands.{allowed-exactly}
+use Rattle.operations.specs.Replay.{replayed}
 use Rattle.ranking.specs.Lead.{leadOf, signOf}
 use Rattle.ranking.specs.Claims.{OfOneOrder, Before, Level}
-use Rattle.ranking.specs.Ranking.{replayed, rankable, rankOf, rankedIf, printed}
+use Rattle.ranking.specs.Ranking.{rankable, rankOf, rankedIf, printed}
 use Rattle.ranking.specs.Request.{RankedExactly, RankExactly, LeadDeciding, Total, Antisymmetric, Carried, Transitive, TimetableFirst, RefusedInOrder}
 use Rattle.ranking.specs.Request.{RankOfCards, RankAsCards, RankedSheet, RankWrongSheet, RankWrongSheetExactly, RankSlots, RankPrefix, TwoRunsInverse}
 use Rattle.ranking.proofs.Compared.{each-passed, both-passed, first-refuses, second-refuses, Rankable, rankable-exactly, printed-rankable}

@@ -27,9 +27,10 @@ use Rattle.timing.specs.Rounding.{lastInstant, endInstant}
 use Rattle.cards.specs.Cards.{cardOf, twoRunsChecked}
 use Rattle.cards.proofs.Cards.{same-card}
 use Rattle.operations.proofs.Same.{replays-same}
+use Rattle.operations.specs.Replay.{replayed}
 use Rattle.ranking.specs.declared.Ranking.the-variants.{Ranked}
 use Rattle.ranking.specs.Lead.{ofOneOrder, instantOf, leadAt, unlessLevel, leadFrom, leadOf, signOf}
-use Rattle.ranking.specs.Ranking.{replayed, rankable, rankedIf, rankOf, rankValues}
+use Rattle.ranking.specs.Ranking.{rankable, rankedIf, rankOf, rankValues}
 
 -- each instant
 same-instant : {r q : Run} → SameRun r q → (i : ℕ) → instantOf r i ≡ instantOf q i

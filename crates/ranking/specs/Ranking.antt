@@ -13,17 +13,12 @@ use Rattle.text.specs.Decimal.{decimal}
 use Rattle.form.specs.Form.{also}
 use Rattle.net.specs.declared.Net.{Net}
 use Rattle.run.specs.declared.Run.{Run}
-use Rattle.firing.specs.Semantics.{arcsOf, ruleOf}
-use Rattle.firing.specs.Replay.{replay}
 use Rattle.cards.specs.Cards.{twoRuns, twoRunsChecked}
 use Rattle.operations.specs.Operation.{onceRead}
+use Rattle.operations.specs.Replay.{replayed}
 use Rattle.ranking.specs.declared.Ranking.{Ranking}
 use Rattle.ranking.specs.declared.Ranking.the-variants.{Ranked, Refused}
 use Rattle.ranking.specs.Lead.{ofOneOrder, leadOf, signOf}
-
--- what a run's replay says, under its memory word
-abbrev pub replayed : Net → Run → Checked
-replayed net r = replay net (ruleOf (arcsOf net) (r .memory)) r .checked
 
 -- why two runs are not ranked: X's replay, then Y's, then 10
 abbrev pub rankable : Net → Run → Run → Checked

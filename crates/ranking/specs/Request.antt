@@ -26,10 +26,11 @@ use Rattle.cards.specs.Claims.{OnAnotherSheet, SecondOnAnother}
 use Rattle.operations.specs.Timetable.{timetableBy, timetableValues}
 use Rattle.operations.specs.Demands.{Allows}
 use Rattle.operations.specs.Requests.{Elsewhere}
+use Rattle.operations.specs.Replay.{replayed}
 use Rattle.ranking.specs.declared.Ranking.the-variants.{Ranked, Refused}
 use Rattle.ranking.specs.Lead.{leadAt, signOf}
 use Rattle.ranking.specs.Claims.{OfOneOrder, Before, Level}
-use Rattle.ranking.specs.Ranking.{replayed, rankValues, printed, rankCards}
+use Rattle.ranking.specs.Ranking.{rankValues, printed, rankCards}
 
 -- "Tutors rank runs of one order on one net": exactly those that pass their checks, that the published semantics allows and that are of one order
 abbrev pub RankedExactly : Type 0

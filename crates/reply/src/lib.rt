@@ -4,8 +4,9 @@ ghost use Rattle.reply.specs.Refusal.{numberOf, positionOf};
 ghost use Rattle.reply.specs.Respond.{Responded, answer};
 
 // Why an operation gives no answer. The variants hold the place that documents 01 and 02 print with them: a line of a card for the first four and for
-// another sheet, a firing for the next four, both from 1. The others have place 0: an output too short, two runs that are not of one order, and nets that
-// cannot be joined, by their list of pairs, their starts or their size.
+// another sheet, a firing for the next four, both from 1. Of a step of an open run it is the firing being entered, whatever the number. The others have
+// place 0: an output too short, two runs that are not of one order, nets that cannot be joined, by their list of pairs, their starts or their size, and a run
+// that is closed.
 pub enum Refusal {
     Malformed(usize),
     OutOfRange(usize),
@@ -21,6 +22,7 @@ pub enum Refusal {
     BadPairs,
     UnequalStarts,
     TooLarge,
+    ClosedRun,
 }
 
 // What a check of a value or of one line says.
@@ -54,6 +56,7 @@ pub fn number_of(r: Refusal) -> u32
         Refusal::BadPairs => 12,
         Refusal::UnequalStarts => 13,
         Refusal::TooLarge => 14,
+        Refusal::ClosedRun => 15,
     }
 }
 
@@ -76,6 +79,7 @@ pub fn position_of(r: Refusal) -> usize
         Refusal::BadPairs => 0,
         Refusal::UnequalStarts => 0,
         Refusal::TooLarge => 0,
+        Refusal::ClosedRun => 0,
     }
 }
 

@@ -72,7 +72,7 @@ module _ (r : Refusal) (s : List ℕ) (at line : ℕ) where
 memory-placed : Placed memory 1
 memory-placed = line-placed memory-refused (λ m. refl)
 
-memory-format : {P : Type 0} → Format P memory 13 1
+pub memory-format : {P : Type 0} → Format P memory 13 1
 memory-format =
     record {
       settled = record { same-text = λ m. refl; same-lines = λ m. refl; same-check = λ m line. refl };

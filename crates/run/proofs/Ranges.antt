@@ -1,4 +1,4 @@
--- A run card passes its check exactly when it is on its net's sheet and each of its numbers lies in its range; and what an order card that passes says of its numbers.
+-- A run card, and an order card, passes its check exactly when it is on its net's sheet and each of its numbers lies in its range.
 use Prim.Native.Nat.{ℕ, _+_, _≤_, _<_}
 use native.Mathlib.Omega.{arith}
 use mathlib.Core.Path.{_≡_, refl}
@@ -20,10 +20,10 @@ use Rattle.run.specs.declared.Run.{Run}
 use Rattle.run.specs.declared.Order.{Order}
 use Rattle.run.specs.Run.{fire, firing, runCard, orderCard, firingsOf, firesOf}
 
-ranged-passes : (low high n line : ℕ) → low ≤ n → n ≤ high → ranged low high n line ≡ Passed
+pub ranged-passes : (low high n line : ℕ) → low ≤ n → n ≤ high → ranged low high n line ≡ Passed
 ranged-passes low high n line a b = rw (le-leb low n a, le-leb n high b) refl
 
-listed-within : (transitions n line : ℕ) → listed transitions n line ≡ Passed → n < transitions
+pub listed-within : (transitions n line : ℕ) → listed transitions n line ≡ Passed → n < transitions
 listed-within transitions n line e = ltb-true n transitions (test-passed (ltb n transitions) (NoSuchTransition line) e)
 
 -- a firing whose numbers lie in their ranges
@@ -46,6 +46,11 @@ module _ (transitions : ℕ) where
 
   fires-fit : (l : List ℕ) (line : ℕ) → checks (fire transitions) l line ≡ Passed → Each (λ t. t < transitions) l
   fires-fit = checks-each (fire transitions) (λ t. t < transitions) (listed-within transitions)
+
+  fires-pass : (l : List ℕ) (line : ℕ) → Each (λ t. t < transitions) l → checks (fire transitions) l line ≡ Passed
+  unfolding checks
+  fires-pass [] line h = refl
+  fires-pass (t ∷ l) line h = rw (lt-ltb t transitions (h .0)) (fires-pass l (line + 1) (h .1))
 
 -- a run on a net's sheet whose numbers lie in their ranges
 pub record RunFits (sheet transitions : ℕ) (r : Run) : Type 0 where
@@ -109,3 +114,11 @@ module _ (sheet transitions : ℕ) where
         few = ranged-within 0 64 (o .count) 3 (also-first count _ behind) .1;
         each = fires-fit transitions (firesOf o) 4 (also-second count _ behind);
       }
+
+  pub order-passes : (o : Order) → OrderFits sheet transitions o → orderCard sheet transitions .check o 1 ≡ Passed
+  unfolding firesOf
+  order-passes o f =
+      rw (
+        own-sheet sheet (o .sheet) 1 (omega (arith, f .sheet-small, f .own)) (f .own),
+        ranged-passes 0 64 (o .count) 3 (omega arith) (f .few),
+      ) (fires-pass transitions (firesOf o) 4 (f .each))

@@ -23,7 +23,7 @@ ghost use Rattle.cards.specs.Cards.{readRun, readOrder, runChecked, orderChecke
 ghost use Rattle.run_card.specs.Code.{memoryLine, oneFiring, runRead, orderRead, runOn, runFrom, wholeIf, runAt, orderOn, orderFrom};
 
 // The memory rule of a line and the position behind the line, or why there is none.
-enum MemoryLine {
+pub enum MemoryLine {
     Value { memory: Memory, next: usize },
     Refused(Refusal),
 }
@@ -80,7 +80,7 @@ fn memory_at(s: &[u8], at: usize, line: usize) -> MemoryLine
 }
 
 // The line `memory`.
-fn memory_line(s: &[u8], at: usize, line: usize) -> MemoryLine
+pub fn memory_line(s: &[u8], at: usize, line: usize) -> MemoryLine
     ensures { λ r. ⌜ r ≡ memoryLine (keyed (bytes "memory=") memory .read (now (s .entry)) at line) ⌝ }
 {
     if text::begins_at(s, at, b"memory=") {

@@ -3,9 +3,8 @@
 
 use harness::gen::{self, Rng};
 use harness::naive::{Memory, Net, Order, Run, Transition};
-use harness::{
-    engine::ENGINE, paper, Engine, Operation, Outcome, LONGEST, NAIVE, OPERATIONS, PLAIN,
-};
+use harness::{engine::ENGINE, name, paper, Engine, Outcome, FUNCTIONS, LIVE, LONGEST, NAIVE};
+use harness::{CLOSE, FIRE, OPEN, OPERATIONS, PLAIN, WAIT};
 use std::env;
 use std::hint::black_box;
 use std::process::ExitCode;
@@ -23,10 +22,11 @@ const SAMPLE: Duration = Duration::from_micros(150);
 
 const WARM_UP: Duration = Duration::from_millis(500);
 
+/// Inputs of a function, each with its number if it takes one.
 struct Workload {
-    operation: usize,
+    function: usize,
     name: &'static str,
-    inputs: Vec<Vec<u8>>,
+    inputs: Vec<(Vec<u8>, u32)>,
 }
 
 // Workloads
@@ -104,6 +104,40 @@ fn typical_nets() -> Vec<Vec<u8>> {
     .iter()
     .map(gen::two_nets)
     .collect()
+}
+
+/// What a step of an open run is given: 0 for the firing is the transition of net A that may fire.
+fn number(step: usize, next: u32) -> u32 {
+    match step {
+        WAIT | CLOSE => 1000,
+        FIRE => next,
+        _ => 0,
+    }
+}
+
+/// Net A with a firing entered and the wait before the next, and without one.
+fn typical_open_runs(step: usize) -> Vec<(Vec<u8>, u32)> {
+    let begun = paper::run(1, Memory::Atomic, 2, &[(3, 0)], 3);
+    let waiting = paper::run(1, Memory::Intermediate, 2, &[], 3);
+    let of = |run| match step {
+        OPEN => gen::with_opening(&(paper::net_a(), run)),
+        _ => gen::with_run(&(paper::net_a(), run)),
+    };
+    let numbered = |run| (of(run), number(step, 0));
+    [begun, waiting].map(numbered).to_vec()
+}
+
+/// The largest net with 64 firings entered; for a firing 63 and the wait before the last.
+fn large_open_runs(step: usize, rng: &mut Rng) -> Vec<(Vec<u8>, u32)> {
+    let make = || {
+        let (net, run, next) = gen::large_open_run(rng, 63 + usize::from(step != FIRE));
+        let input = match step {
+            OPEN => gen::with_opening(&(net, run)),
+            _ => gen::with_run(&(net, run)),
+        };
+        (input, number(step, next))
+    };
+    std::iter::repeat_with(make).take(8).collect()
 }
 
 fn several(make: impl FnMut() -> Vec<u8>) -> Vec<Vec<u8>> {
@@ -195,6 +229,7 @@ fn workloads() -> Vec<Workload> {
     let large_orders = several(|| gen::with_order(&gen::large_order(rng)));
     let large_pairs = several(|| gen::with_pair(&gen::large_pair(rng)));
     let large_nets = several(|| gen::two_nets(&gen::large_nets(rng)));
+    let numbered = |inputs: Vec<Vec<u8>>| inputs.into_iter().map(|input| (input, 0)).collect();
     let mut workloads = Vec::new();
     for operation in [REPLAY, ROUND, TIMETABLE, PROCESS, RANK, JOIN] {
         let (typical, large) = match operation {
@@ -208,11 +243,21 @@ fn workloads() -> Vec<Workload> {
         let named = [("typical", typical), ("large", large)];
         for (name, inputs) in named.into_iter().chain(worst) {
             workloads.push(Workload {
-                operation,
+                function: operation,
                 name,
-                inputs,
+                inputs: numbered(inputs),
             });
         }
+    }
+    for step in 0..LIVE.len() {
+        let function = OPERATIONS.len() + step;
+        let typical = ("typical", typical_open_runs(step));
+        let large = ("large", large_open_runs(step, rng));
+        workloads.extend([typical, large].map(|(name, inputs)| Workload {
+            function,
+            name,
+            inputs,
+        }));
     }
     workloads
 }
@@ -220,11 +265,28 @@ fn workloads() -> Vec<Workload> {
 // Timing
 
 /// The time of one sample, in nanoseconds a call.
-fn sample(operation: Operation, inputs: &[Vec<u8>], rounds: usize, output: &mut [u8]) -> f64 {
+fn sample(engine: &Engine, workload: &Workload, rounds: usize, output: &mut [u8]) -> f64 {
+    let inputs = &workload.inputs;
     let start = Instant::now();
-    for _ in 0..rounds {
-        for input in inputs {
-            black_box(operation(black_box(input), black_box(output)));
+    match engine.operations.get(workload.function) {
+        Some(operation) => {
+            for _ in 0..rounds {
+                for (input, _) in inputs {
+                    black_box(operation(black_box(input), black_box(output)));
+                }
+            }
+        }
+        None => {
+            let step = engine.live[workload.function - OPERATIONS.len()];
+            for _ in 0..rounds {
+                for (input, number) in inputs {
+                    black_box(step(
+                        black_box(input),
+                        black_box(*number),
+                        black_box(output),
+                    ));
+                }
+            }
         }
     }
     start.elapsed().as_nanos() as f64 / (rounds * inputs.len()) as f64
@@ -246,14 +308,10 @@ struct Timed {
 }
 
 fn time(workload: &Workload, other: &Engine, samples: usize, output: &mut [u8]) -> Timed {
-    let sides = [
-        PLAIN.operations[workload.operation],
-        other.operations[workload.operation],
-    ];
-    let inputs = &workload.inputs;
+    let sides = [&PLAIN, other];
     let rounds = sides.map(|side| {
-        let call = sample(side, inputs, 20, output);
-        let round = call * inputs.len() as f64;
+        let call = sample(side, workload, 20, output);
+        let round = call * workload.inputs.len() as f64;
         (SAMPLE.as_nanos() as f64 / round).ceil().max(1.0) as usize
     });
     let mut times = [const { Vec::new() }; 2];
@@ -261,7 +319,7 @@ fn time(workload: &Workload, other: &Engine, samples: usize, output: &mut [u8]) 
         // Each side goes first in every second sample.
         for turn in 0..2 {
             let side = (index + turn) % 2;
-            times[side].push(sample(sides[side], inputs, rounds[side], output));
+            times[side].push(sample(sides[side], workload, rounds[side], output));
         }
     }
     let mut ratios: Vec<f64> = times[1]
@@ -284,12 +342,7 @@ fn warm_up(workloads: &[Workload], other: &Engine, output: &mut [u8]) {
     while start.elapsed() < WARM_UP {
         for workload in workloads {
             for engine in [&PLAIN, other] {
-                sample(
-                    engine.operations[workload.operation],
-                    &workload.inputs,
-                    1,
-                    output,
-                );
+                sample(engine, workload, 1, output);
             }
         }
     }
@@ -299,10 +352,10 @@ fn warm_up(workloads: &[Workload], other: &Engine, output: &mut [u8]) {
 fn outcome(workload: &Workload, other: &Engine) -> Option<String> {
     let mut lengths = 0;
     let mut refusal = None;
-    for input in &workload.inputs {
+    for (input, number) in &workload.inputs {
         let (mut a, mut b) = (vec![0; LONGEST], vec![0; LONGEST]);
-        let result = PLAIN.operations[workload.operation](input, &mut a);
-        if other.operations[workload.operation](input, &mut b) != result || a != b {
+        let result = PLAIN.call(workload.function, *number, input, &mut a);
+        if other.call(workload.function, *number, input, &mut b) != result || a != b {
             return None;
         }
         match Outcome::of(result) {
@@ -320,20 +373,21 @@ fn run(other: &Engine, samples: usize) -> bool {
     println!("| operation | input | bytes in | bytes out | plain ns | {} ns | ratio | half of the ratios |", other.name);
     println!("|---|---|---:|---:|---:|---:|---:|---|");
     let mut against = Vec::new();
-    let mut large = [(0.0, 0.0); OPERATIONS.len()];
+    let mut large = [(0.0, 0.0); FUNCTIONS];
     for workload in &workloads {
         let Some(outcome) = outcome(workload, other) else {
             println!(
                 "\nThe sides differ on {}, {}: run compare.",
-                OPERATIONS[workload.operation], workload.name
+                name(workload.function),
+                workload.name
             );
             return false;
         };
-        let bytes: usize = workload.inputs.iter().map(Vec::len).sum();
+        let bytes: usize = workload.inputs.iter().map(|(input, _)| input.len()).sum();
         let timed = time(workload, other, samples, &mut output);
         println!(
             "| {} | {} | {} | {outcome} | {:.0} | {:.0} | {:.2} | {:.2} to {:.2} |",
-            OPERATIONS[workload.operation],
+            name(workload.function),
             workload.name,
             bytes / workload.inputs.len(),
             timed.plain,
@@ -342,13 +396,13 @@ fn run(other: &Engine, samples: usize) -> bool {
             timed.ratios.0,
             timed.ratios.1,
         );
-        let typical = &mut large[workload.operation];
+        let typical = &mut large[workload.function];
         match workload.name {
             "typical" => {}
             "large" => *typical = (timed.plain, timed.other),
             _ => against.push(format!(
                 "{} {}: plain {:.1}, {} {:.1}",
-                OPERATIONS[workload.operation],
+                name(workload.function),
                 workload.name,
                 timed.plain / typical.0,
                 other.name,

@@ -1,7 +1,9 @@
 //! `cases DIR [--engine | --naive]`: runs an implementation over a folder of cases, which has
-//! folders named as operations with inputs NNNN.in and what the program must print, NNNN.out.
+//! folders named as programs with inputs NNNN.in and what the program must print, NNNN.out.
+//! For `live` the plain version has the program itself, the others the functions that it calls.
 
-use harness::{engine::ENGINE, printed, Engine, NAIVE, OPERATIONS, PLAIN};
+use harness::session::session;
+use harness::{engine::ENGINE, plain, printed, Engine, NAIVE, OPERATIONS, PLAIN};
 use std::path::{Path, PathBuf};
 use std::process::ExitCode;
 use std::{env, fs, io};
@@ -19,28 +21,39 @@ fn inputs(folder: &Path) -> io::Result<Vec<PathBuf>> {
     Ok(inputs)
 }
 
+/// How many cases of one program passed, and how many there are.
+fn program(folder: &Path, prints: impl Fn(&[u8]) -> Vec<u8>) -> io::Result<(usize, usize)> {
+    let inputs = inputs(folder)?;
+    let mut passed = 0;
+    for path in &inputs {
+        let expected = fs::read(path.with_extension("out"))?;
+        let found = prints(&fs::read(path)?);
+        if found == expected {
+            passed += 1;
+            continue;
+        }
+        println!("differs: {}", path.display());
+        println!("  expected: {}", expected.escape_ascii());
+        println!("  found:    {}", found.escape_ascii());
+    }
+    Ok((passed, inputs.len()))
+}
+
 fn run(engine: &Engine, folder: &Path) -> io::Result<bool> {
     let (mut passed, mut failed) = (0, 0);
-    for (name, operation) in OPERATIONS.iter().zip(engine.operations) {
+    for (at, name) in OPERATIONS.iter().chain(&["live"]).enumerate() {
         let folder = folder.join(name);
         if !folder.is_dir() {
             continue;
         }
-        let inputs = inputs(&folder)?;
-        let before = passed;
-        for path in &inputs {
-            let expected = fs::read(path.with_extension("out"))?;
-            let found = printed(operation, &fs::read(path)?);
-            if found == expected {
-                passed += 1;
-                continue;
-            }
-            failed += 1;
-            println!("differs: {}", path.display());
-            println!("  expected: {}", expected.escape_ascii());
-            println!("  found:    {}", found.escape_ascii());
-        }
-        println!("{name}: {} of {} passed", passed - before, inputs.len());
+        let (some, all) = program(&folder, |input| match engine.operations.get(at) {
+            Some(&operation) => printed(operation, input),
+            None if engine.name == PLAIN.name => plain::session(input),
+            None => session(engine, input),
+        })?;
+        println!("{name}: {some} of {all} passed");
+        passed += some;
+        failed += all - some;
     }
     println!("{}: {passed} passed, {failed} failed", engine.name);
     Ok(failed == 0 && passed > 0)

@@ -8,6 +8,11 @@ impl Rng {
         Rng(seed)
     }
 
+    /// The numbers at an index of a seed.
+    pub fn at(seed: u64, index: u64) -> Self {
+        Rng::new(Rng::new(seed).draw() ^ index.wrapping_mul(0xd134_2543_de82_ef95))
+    }
+
     pub fn draw(&mut self) -> u64 {
         self.0 = self.0.wrapping_add(0x9e37_79b9_7f4a_7c15);
         let mut z = self.0;

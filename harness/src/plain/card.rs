@@ -12,19 +12,20 @@ pub const UNBOUNDED: u32 = u32::MAX;
 const MOST_SHEET: u32 = 9_999;
 const MOST_TOKENS: u32 = 255;
 const MOST_TICKS: u32 = 1_000;
-const MOST_PARTS: u32 = 10_000_000;
+const MOST_DENOMINATOR: u32 = 1_000;
+pub const MOST_PARTS: u32 = 10_000_000;
 
 /// A number for each place; 0 past the places of the net.
 pub type Tokens = [u8; PLACES];
 
-#[derive(Clone, Copy, PartialEq, Eq)]
+#[derive(Clone, Copy, Debug, PartialEq, Eq)]
 pub enum Memory {
     Intermediate,
     Atomic,
     Carry,
 }
 
-#[derive(Clone, Copy)]
+#[derive(Clone, Copy, Debug, PartialEq, Eq)]
 pub struct Transition {
     pub earliest: u32,
     pub latest: u32,
@@ -32,6 +33,14 @@ pub struct Transition {
     pub give: Tokens,
 }
 
+const NO_TRANSITION: Transition = Transition {
+    earliest: 0,
+    latest: 0,
+    take: [0; PLACES],
+    give: [0; PLACES],
+};
+
+#[derive(Clone, Debug, PartialEq, Eq)]
 pub struct Net {
     pub sheet: u32,
     pub places: usize,
@@ -40,6 +49,7 @@ pub struct Net {
     pub transition: [Transition; TRANSITIONS],
 }
 
+#[derive(Clone, Debug, PartialEq, Eq)]
 pub struct Run {
     pub sheet: u32,
     pub memory: Memory,
@@ -57,6 +67,12 @@ pub struct Order {
     pub fire: [u8; FIRINGS],
 }
 
+/// The lines that open a run on a net's sheet.
+pub struct Opening {
+    pub memory: Memory,
+    pub denominator: u32,
+}
+
 /// The list of a `pairs` line: how many numbers it has, and as many of them as can be pairs.
 pub struct Pairs {
     pub count: usize,
@@ -66,18 +82,12 @@ pub struct Pairs {
 impl Net {
     #[inline(always)]
     pub fn empty() -> Self {
-        const NONE: Transition = Transition {
-            earliest: 0,
-            latest: 0,
-            take: [0; PLACES],
-            give: [0; PLACES],
-        };
         Net {
             sheet: 0,
             places: 0,
             transitions: 0,
             start: [0; PLACES],
-            transition: [NONE; TRANSITIONS],
+            transition: [NO_TRANSITION; TRANSITIONS],
         }
     }
 
@@ -98,6 +108,51 @@ impl Net {
         }
         Ok(lines.rest)
     }
+
+    /// Finds against a net that was not read what would be found against its card.
+    pub fn check(&self) -> Result<(), i64> {
+        in_range(self.sheet, 0, MOST_SHEET, 1)?;
+        in_range(clipped(self.places), 1, PLACES as u32, 2)?;
+        in_range(clipped(self.transitions), 1, TRANSITIONS as u32, 3)?;
+        let mut line = 3 + self.places as u32;
+        for transition in &self.transition[..self.transitions] {
+            let Transition {
+                earliest, latest, ..
+            } = *transition;
+            in_range(earliest, 0, MOST_TICKS, line + 1)?;
+            if latest != UNBOUNDED {
+                in_range(latest, 0, MOST_TICKS, line + 2)?;
+            }
+            if latest < earliest {
+                return Err(refused(3, line + 2));
+            }
+            line += 4;
+        }
+        Ok(())
+    }
+
+    /// Clears the slots past the counts, which are no part of a net.
+    pub fn trim(&mut self) {
+        let (places, transitions) = (self.places.min(PLACES), self.transitions.min(TRANSITIONS));
+        self.start[places..].fill(0);
+        for transition in &mut self.transition[..transitions] {
+            transition.take[places..].fill(0);
+            transition.give[places..].fill(0);
+        }
+        self.transition[transitions..].fill(NO_TRANSITION);
+    }
+}
+
+/// A count as a number of a card.
+fn clipped(count: usize) -> u32 {
+    u32::try_from(count).unwrap_or(u32::MAX)
+}
+
+fn in_range(value: u32, least: u32, most: u32, line: u32) -> Result<(), i64> {
+    if value < least || value > most {
+        return Err(refused(2, line));
+    }
+    Ok(())
 }
 
 impl Run {
@@ -132,7 +187,7 @@ impl Run {
     fn read_lines(&mut self, lines: &mut Lines, net: &Net) -> Result<(), i64> {
         self.sheet = lines.sheet_of(net)?;
         self.memory = lines.memory()?;
-        self.denominator = lines.number(b"denominator=", 1, 1_000)?;
+        self.denominator = lines.number(b"denominator=", 1, MOST_DENOMINATOR)?;
         self.firings = lines.number(b"firings=", 0, FIRINGS as u32)? as usize;
         for (wait, fire) in self.wait.iter_mut().zip(&mut self.fire).take(self.firings) {
             *wait = lines.number(b"wait=", 0, MOST_PARTS)?;
@@ -140,6 +195,33 @@ impl Run {
         }
         self.rest = lines.number(b"rest=", 0, MOST_PARTS)?;
         Ok(())
+    }
+
+    /// Finds against a run of a net that was not read what would be found against its card.
+    pub fn check(&self, net: &Net) -> Result<(), i64> {
+        in_range(self.sheet, 0, MOST_SHEET, 1)?;
+        if self.sheet != net.sheet {
+            return Err(refused(11, 1));
+        }
+        in_range(self.denominator, 1, MOST_DENOMINATOR, 3)?;
+        in_range(clipped(self.firings), 0, FIRINGS as u32, 4)?;
+        let mut line = 4;
+        for (&wait, &fire) in self.wait.iter().zip(&self.fire).take(self.firings) {
+            in_range(wait, 0, MOST_PARTS, line + 1)?;
+            if usize::from(fire) >= net.transitions {
+                return Err(refused(4, line + 2));
+            }
+            line += 2;
+        }
+        in_range(self.rest, 0, MOST_PARTS, line + 1)
+    }
+
+    /// Whether the slots past the count hold nothing.
+    pub fn is_blank_behind(&self) -> bool {
+        let behind = self.wait.iter().zip(&self.fire).skip(self.firings);
+        behind
+            .into_iter()
+            .all(|(&wait, &fire)| wait == 0 && fire == 0)
     }
 }
 
@@ -164,6 +246,36 @@ impl Order {
         }
         lines.end()
     }
+}
+
+impl Opening {
+    /// Reads the lines `sheet`, `memory` and `denominator`, with nothing behind them.
+    pub fn read(input: &[u8], net: &Net) -> Result<Self, i64> {
+        let (opening, rest) = Self::read_first(input, net)?;
+        match rest.is_empty() {
+            true => Ok(opening),
+            false => Err(refused(1, 4)),
+        }
+    }
+
+    /// Reads these lines at the front of the input; the bytes behind them.
+    pub fn read_first<'a>(input: &'a [u8], net: &Net) -> Result<(Self, &'a [u8]), i64> {
+        let mut lines = Lines::new(input);
+        lines.sheet_of(net)?;
+        let memory = lines.memory()?;
+        let denominator = lines.any_number(b"denominator=")?;
+        check_denominator(denominator)?;
+        let opening = Opening {
+            memory,
+            denominator,
+        };
+        Ok((opening, lines.rest))
+    }
+}
+
+/// The denominator that a run is opened with: outside its range it is 2, place 0.
+pub fn check_denominator(denominator: u32) -> Result<(), i64> {
+    in_range(denominator, 1, MOST_DENOMINATOR, 0)
 }
 
 impl Pairs {
@@ -329,7 +441,7 @@ impl<'a> Lines<'a> {
 
 /// Reads one to nine digits without a leading zero, and the byte behind them, which is this one.
 #[inline(always)]
-fn decimal(text: &[u8], end: u8) -> Option<(u32, &[u8])> {
+pub fn decimal(text: &[u8], end: u8) -> Option<(u32, &[u8])> {
     let (value, _, rest) = decimal_before(text, |byte| byte == end)?;
     Some((value, rest))
 }

@@ -1,13 +1,17 @@
-//! The six operations as plain Rust, written for speed from the paper alone.
+//! The six operations and open runs as plain Rust, written for speed from the paper alone.
 //!
 //! Each reads its cards in one pass into fixed arrays, steps through the firings or puts one net into
 //! the other, and writes its answer into a buffer on the stack, which is copied out once its length is known.
 
-mod card;
+pub mod card;
 mod firing;
 mod join;
+pub mod live;
+mod session;
 mod text;
 mod timing;
+
+pub use session::session;
 
 use card::{Memory, Net, Order, Pairs, Run, Transition, FIRINGS, PLACES, UNBOUNDED};
 use firing::State;
@@ -16,7 +20,7 @@ use text::Text;
 use timing::Timing;
 
 const REPLAY_LONGEST: usize = 580;
-const RUN_LONGEST: usize = 1_478;
+const RUN_LONGEST: usize = 1_481;
 const PROCESS_LONGEST: usize = 22_000;
 const RANK_LONGEST: usize = 26;
 const NET_LONGEST: usize = 5_444;
@@ -67,23 +71,7 @@ fn replay_outcome(input: &[u8], out: &mut [u8]) -> Result<i64, i64> {
     let rest = net.read(input)?;
     run.read(rest, &net)?;
     let (state, last) = replayed(&net, &run)?;
-    let end = last + run.rest;
-
-    let mut text = Text::<REPLAY_LONGEST>::new();
-    text.push(b"end=");
-    for (place, &tokens) in state.marking[..net.places].iter().enumerate() {
-        let last_place = place + 1 == net.places;
-        text.number(tokens.into(), if last_place { b'\n' } else { b',' });
-    }
-    for transition in 0..net.transitions {
-        text.push(b"clock=");
-        if state.is_enabled(transition) {
-            text.number(end - state.since[transition], b'\n');
-        } else {
-            text.push(b"off\n");
-        }
-    }
-    text.copy_to(out)
+    write_state(&net, &state, last + run.rest, out)
 }
 
 fn round_outcome(input: &[u8], out: &mut [u8]) -> Result<i64, i64> {
@@ -110,10 +98,15 @@ fn timetable_outcome(input: &[u8], out: &mut [u8]) -> Result<i64, i64> {
     let (mut net, mut order) = (Net::empty(), Order::empty());
     let rest = net.read(input)?;
     order.read(rest, &net)?;
-
-    let mut origins = [0u32; FIRINGS];
-    let mut state = State::new(&net, order.memory);
     let fire = &order.fire[..order.firings];
+    write_earliest(&net, order.memory, fire, out)
+}
+
+/// Writes the earliest run of an order on its net's sheet.
+#[inline(always)]
+fn write_earliest(net: &Net, memory: Memory, fire: &[u8], out: &mut [u8]) -> Result<i64, i64> {
+    let mut origins = [0u32; FIRINGS];
+    let mut state = State::new(net, memory);
     for ((&fire, origin), number) in fire.iter().zip(&mut origins).zip(1..) {
         let fire = usize::from(fire);
         if !state.is_enabled(fire) {
@@ -134,7 +127,7 @@ fn timetable_outcome(input: &[u8], out: &mut [u8]) -> Result<i64, i64> {
     }
 
     let mut text = Text::<RUN_LONGEST>::new();
-    run_head(&mut text, order.sheet, order.memory, order.firings);
+    run_head(&mut text, net.sheet, memory, fire.len());
     for (pair, &fire) in timing.instants().windows(2).zip(fire) {
         firing_lines(&mut text, pair[1] - pair[0], fire);
     }
@@ -256,22 +249,47 @@ fn replayed<'n>(net: &'n Net, run: &Run) -> Result<(State<'n>, u32), i64> {
     let firings = run.wait.iter().zip(&run.fire).take(run.firings);
     for ((&wait, &fire), number) in firings.zip(1..) {
         now += wait;
-        let fire = usize::from(fire);
-        if !state.is_enabled(fire) {
-            return Err(refused(5, number));
-        }
-        let transition = &net.transition[fire];
-        let clock = now - state.since[fire];
-        if clock < transition.earliest * run.denominator
-            || clock > transition.latest.saturating_mul(run.denominator)
-        {
-            return Err(refused(7, number));
-        }
-        if !state.fire(fire, now) {
-            return Err(refused(6, number));
-        }
+        step(net, &mut state, run.denominator, now, fire.into())
+            .map_err(|why| refused(why, number))?;
     }
     Ok((state, now))
+}
+
+/// Fires a transition at an instant, or says which of 5, 7 and 6 is against it.
+#[inline(always)]
+fn step(net: &Net, state: &mut State, parts: u32, now: u32, fire: usize) -> Result<(), u32> {
+    if !state.is_enabled(fire) {
+        return Err(5);
+    }
+    let transition = &net.transition[fire];
+    let clock = now - state.since[fire];
+    if clock < transition.earliest * parts || clock > transition.latest.saturating_mul(parts) {
+        return Err(7);
+    }
+    if !state.fire(fire, now) {
+        return Err(6);
+    }
+    Ok(())
+}
+
+/// Writes the marking and the clocks at an instant from the last firing on.
+#[inline(always)]
+fn write_state(net: &Net, state: &State, now: u32, out: &mut [u8]) -> Result<i64, i64> {
+    let mut text = Text::<REPLAY_LONGEST>::new();
+    text.push(b"end=");
+    for (place, &tokens) in state.marking[..net.places].iter().enumerate() {
+        let last_place = place + 1 == net.places;
+        text.number(tokens.into(), if last_place { b'\n' } else { b',' });
+    }
+    for transition in 0..net.transitions {
+        text.push(b"clock=");
+        if state.is_enabled(transition) {
+            text.number(now - state.since[transition], b'\n');
+        } else {
+            text.push(b"off\n");
+        }
+    }
+    text.copy_to(out)
 }
 
 /// The lines of a whole-tick run card before its firings.

@@ -4,7 +4,8 @@ use mathlib.Core.Path.{_≡_, _∙_}
 use borrow.Author.Needs.{needs}
 use Rattle.reply.specs.declared.Refusal.the-variants.{OtherOrder}
 use Rattle.reply.specs.declared.Checked.the-variants.{Passed, Refused}
-use Rattle.ranking.specs.Ranking.{replayed, rankable}
+use Rattle.operations.specs.Replay.{replayed}
+use Rattle.ranking.specs.Ranking.{rankable}
 use Rattle.ranking.specs.Lead.{ofOneOrder}
 use Rattle.ranking.proofs.Comparing.{replay-says}
 use Rattle.ranking.proofs.check_rankable.Statement.{statement}

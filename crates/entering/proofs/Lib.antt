@@ -1,0 +1,4 @@
+pub mod Answers
+pub mod Entered
+pub mod Slots
+pub mod Stands

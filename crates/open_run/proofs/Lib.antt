@@ -1,0 +1,12 @@
+pub mod Accepted
+pub mod Bounds
+pub mod Calls
+pub mod Firing
+pub mod Opened
+pub mod Opening
+pub mod OverCards
+pub mod Reached
+pub mod Refusals
+pub mod Request
+pub mod Same
+pub mod Sequence

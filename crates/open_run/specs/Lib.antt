@@ -1,0 +1,5 @@
+pub mod Cards
+pub mod Claims
+pub mod Open
+pub mod Request
+pub mod Starred
