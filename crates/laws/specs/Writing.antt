@@ -82,6 +82,10 @@ module _ (s : List ℕ) (at : ℕ) (text : List ℕ) (room : at + length text �
   none_behind : drop (length s - at) (drop at s) ≡ []
   none_behind = drop_of_length-le (drop at s) {i = length s - at} (omega (arith, length-drop at s))
 
+  -- the text was copied to its place
+  pub wrote_part : Wrote s at text (at + length text) (take at s ++ (text ++ drop (length text) (drop at s)))
+  wrote_part = record { end = refl; bytes = rw (drop-drop (length text) at s, append_assoc) refl }
+
   -- the tail came back as `tail`, with the text at its front
   pub wrote_tail : (n : ℕ) (tail : List ℕ) →
       n ≡ length text →

@@ -93,6 +93,6 @@ pub fn respond(text: &[u8], out: &mut [u8]) -> Reply
     if out.len() < text.len() {
         return Reply::Refused(Refusal::OutputTooShort);
     }
-    let n = bytes::copy(text, out);
-    Reply::Written(n)
+    out[..text.len()].copy_from_slice(text);
+    Reply::Written(text.len())
 }

@@ -13,9 +13,6 @@ use lib.ListN.{length, get_or, drop, drop_of_length-le}
 use lib.Seq.{drop-cons}
 use lib.Dec.{eqb, lit<}
 use borrow.Author.Tests.{le-leb, eqb-true, eqb-false, ne_eqb}
-use types.Run.{OneOf, miss}
-use denote.Enum.Declared.{tag_of}
-use Rattle.text.specs.contracts.ByteClass.{the_type}
 use Rattle.text.specs.declared.ByteClass.{ByteClass}
 use Rattle.text.specs.declared.ByteClass.TheVariants.{Zero, Digit, Comma, LineEnd, Other}
 use Rattle.text.specs.declared.NumberRead.TheVariants.{Value, NoNumber}
@@ -64,15 +61,15 @@ digit_class b k e = go k (class_says b k e)
     go LineEnd h = rw h refl
     go Other h = sym h.0
 
-pub no_digit : (b : ℕ) (k : ByteClass) → class_of b ≡ k → OneOf (2 ∷ 3 ∷ 4 ∷ []) (tag_of the_type k) → false ≡ is_digit b
-no_digit b k e o = go k o ∙ digit_class b k e
+pub no_digit : (b : ℕ) (k : ByteClass) → class_of b ≡ k → k ≢ Zero → ((d : ℕ) → k ≢ Digit d) → false ≡ is_digit b
+no_digit b k e zero_not digit_not = go k zero_not digit_not ∙ digit_class b k e
   where
-    go : (k : ByteClass) → OneOf (2 ∷ 3 ∷ 4 ∷ []) (tag_of the_type k) → false ≡ digit_by k
-    go Zero o = absurd (miss (2 ∷ 3 ∷ 4 ∷ []) 0 tt o)
-    go (Digit d) o = absurd (miss (2 ∷ 3 ∷ 4 ∷ []) 1 tt o)
-    go Comma o = refl
-    go LineEnd o = refl
-    go Other o = refl
+    go : (k : ByteClass) → k ≢ Zero → ((d : ℕ) → k ≢ Digit d) → false ≡ digit_by k
+    go Zero z d = absurd (z refl)
+    go (Digit n) z d = absurd (d n refl)
+    go Comma z d = refl
+    go LineEnd z d = refl
+    go Other z d = refl
 
 -- ---- the digits that a list begins with, one step at a time
 digits_more : (s : List ℕ) (i : ℕ) → i < length s → is_digit (get_or s i 0) ≡ true
@@ -134,12 +131,12 @@ ends_by last Comma = not last
 ends_by last LineEnd = last
 ends_by last Other = false
 
-pub ends_none : (last : Bool) (k : ByteClass) → OneOf (0 ∷ 1 ∷ 4 ∷ []) (tag_of the_type k) → false ≡ ends_by last k
-ends_none last Zero o = refl
-ends_none last (Digit d) o = refl
-ends_none last Comma o = absurd (miss (0 ∷ 1 ∷ 4 ∷ []) 2 tt o)
-ends_none last LineEnd o = absurd (miss (0 ∷ 1 ∷ 4 ∷ []) 3 tt o)
-ends_none last Other o = refl
+pub ends_none : (last : Bool) (k : ByteClass) → k ≢ Comma → k ≢ LineEnd → false ≡ ends_by last k
+ends_none last Zero p q = refl
+ends_none last (Digit d) p q = refl
+ends_none last Comma p q = absurd (p refl)
+ends_none last LineEnd p q = absurd (q refl)
+ends_none last Other p q = refl
 
 ends_nothing : (last : Bool) (b : ℕ) → b ≢ 44 → b ≢ 10 → eqb b (separator last) ≡ false
 ends_nothing true b p q = ne_eqb b 10 q

@@ -184,8 +184,8 @@ pub fn put_bytes(out: &mut [u8], at: usize, text: &[u8]) -> usize
 {
     if at <= out.len() {
         if text.len() <= out.len() - at {
-            let n = bytes::copy(text, &mut out[at..]);
-            return at + n;
+            out[at..at + text.len()].copy_from_slice(text);
+            return at + text.len();
         }
     }
     put_each(out, at, text)
