@@ -39,7 +39,7 @@ const WAIT: usize = 13;
 const REST: usize = 14;
 
 // What a case reads, and how far: a net, a run and an order of it, and another run, to rank the first with, which no line changes.
-#[derive(Drop)]
+#[derive(Clone, Copy)]
 pub struct Values {
     pub read: LineRead,
     pub net: Net,
@@ -49,7 +49,7 @@ pub struct Values {
 }
 
 // A change: its key, up to two indices, and the number put there.
-#[derive(Drop)]
+#[derive(Clone, Copy)]
 struct Change {
     key: usize,
     first: usize,

@@ -9,7 +9,7 @@ use run::Run;
 use session::Entry;
 
 // A record, and how far the answers go.
-#[derive(Drop)]
+#[derive(Clone, Copy)]
 struct Told {
     run: OpenRun,
     to: usize,

@@ -3,7 +3,7 @@ use super::lines;
 
 // What a case tries. Those on values have a line `with` and changes behind what they read first, and those that read one card more a
 // line `card` and that card behind the changes.
-#[derive(Drop)]
+#[derive(Clone, Copy)]
 pub enum Operation {
     Replay,
     Round,
@@ -31,7 +31,7 @@ pub enum Operation {
 }
 
 // A case: its operation, the length of the output lent, and the positions of its second line and of the lines `with`, `card`, `expect` and `end`.
-#[derive(Drop)]
+#[derive(Clone, Copy)]
 pub struct Case {
     pub operation: Operation,
     pub size: usize,

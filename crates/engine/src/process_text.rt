@@ -15,7 +15,7 @@ use net::Net;
 use run::Run;
 
 // A line of items in the making: where its writer stands, whether it has no item yet, and whether tokens of the newest producer are among its items.
-#[derive(Drop)]
+#[derive(Clone, Copy)]
 struct Line {
     to: usize,
     first: bool,
@@ -23,7 +23,7 @@ struct Line {
 }
 
 // What is to be taken from a place: so many tokens, the oldest first. Of the producers below `top` those before `head` have none left.
-#[derive(Drop)]
+#[derive(Clone, Copy)]
 struct Draw {
     place: usize,
     head: usize,
@@ -32,14 +32,14 @@ struct Draw {
 }
 
 // What taking from a place came to: the line behind its items, and the producer before which none has tokens left.
-#[derive(Drop)]
+#[derive(Clone, Copy)]
 struct Drawn {
     line: Line,
     head: usize,
 }
 
 // A firing of t in a net with so many places; the producers before it are those below `top`.
-#[derive(Drop)]
+#[derive(Clone, Copy)]
 struct Turn {
     t: usize,
     places: usize,

@@ -3,7 +3,7 @@ use net::Transition;
 use reply::Checked;
 
 // The tokens of each place, the instant at which each transition's clock last restarted, and the present instant, in parts of a tick.
-#[derive(Drop)]
+#[derive(Clone, Copy)]
 pub struct State {
     pub marking: [u8; 16],
     pub since: [u64; 32],
@@ -11,14 +11,14 @@ pub struct State {
 }
 
 // What a run came to: whether every firing was allowed, and the state.
-#[derive(Drop)]
+#[derive(Clone, Copy)]
 pub struct Played {
     pub checked: Checked,
     pub state: State,
 }
 
 // A firing that is tried: transition number t with its interval, the instant, and which firing of the run it is, from 1.
-#[derive(Drop)]
+#[derive(Clone, Copy)]
 pub struct Attempt {
     pub t: usize,
     pub interval: Transition,

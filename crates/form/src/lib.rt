@@ -12,14 +12,14 @@ use reply::{Checked, Refusal};
 use text::NumberRead;
 
 // A line's number and the position behind the line, or why there is none.
-#[derive(Drop)]
+#[derive(Clone, Copy)]
 pub enum NumberLine {
     Value { value: u32, next: usize },
     Refused(Refusal),
 }
 
 // Where reading goes on, or why it stopped.
-#[derive(Drop)]
+#[derive(Clone, Copy)]
 pub enum LineRead {
     Next(usize),
     Stopped(Refusal),

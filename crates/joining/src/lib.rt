@@ -20,28 +20,28 @@ use reply::{Checked, Refusal, Reply};
 use text::NumberRead;
 
 // The numbers of two places, one of each net.
-#[derive(Drop)]
+#[derive(Clone, Copy)]
 struct Pair {
     first: usize,
     second: usize,
 }
 
 // The places that a list of pairs names on one side: whether each is a place and none is named twice, and which they are.
-#[derive(Drop)]
+#[derive(Clone, Copy)]
 struct Side {
     distinct: bool,
     named: [bool; 16],
 }
 
 // How many places the joined net has, and the place of one of the two nets at each of them, where 16 stands for none.
-#[derive(Drop)]
+#[derive(Clone, Copy)]
 struct Layout {
     places: usize,
     source: [usize; 16],
 }
 
 // The weights and intervals of transitions, as a net holds them.
-#[derive(Drop)]
+#[derive(Clone, Copy)]
 struct Rows {
     take: [u8; 512],
     give: [u8; 512],
@@ -49,7 +49,7 @@ struct Rows {
 }
 
 // A list that was read and where the unread remainder starts, or why the line is refused; of a longer list the first 32 numbers.
-#[derive(Drop)]
+#[derive(Clone, Copy)]
 struct PairsRead {
     read: LineRead,
     count: usize,

@@ -8,7 +8,7 @@ use reply::Refusal;
 
 // The run that is being entered: its record, the number of the next line, the part of the buffer that is not answered, and whether it goes on: the input has
 // not ended, the next line may yet end, and the answers are read.
-#[derive(Drop)]
+#[derive(Clone, Copy)]
 struct LiveRun {
     run: OpenRun,
     number: usize,

@@ -1,14 +1,14 @@
 // Nets. No function: the types, the net card as a form, and its laws.
 
 // A transition's upper bound, in ticks.
-#[derive(Drop)]
+#[derive(Clone, Copy)]
 pub enum Latest {
     Unbounded,
     Ticks(u32),
 }
 
 // A transition's static interval, in ticks.
-#[derive(Drop)]
+#[derive(Clone, Copy)]
 pub struct Transition {
     pub earliest: u32,
     pub latest: Latest,
@@ -16,7 +16,7 @@ pub struct Transition {
 
 // A net, by the sheet that it is drawn on. What is taken stands by places, 32 transitions a place, so that a firing finds those that a place is short of
 // side by side; what is given stands by transitions, 16 places a transition. Slots past the counts are no part of it.
-#[derive(Drop)]
+#[derive(Clone, Copy)]
 pub struct Net {
     pub sheet: u32,
     pub places: usize,

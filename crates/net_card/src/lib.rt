@@ -17,14 +17,14 @@ use reply::{Checked, Refusal, Reply};
 use text::NumberRead;
 
 // A transition's interval and the position behind its two lines, or why there is none.
-#[derive(Drop)]
+#[derive(Clone, Copy)]
 enum IntervalRead {
     Value { interval: Transition, next: usize },
     Refused(Refusal),
 }
 
 // The slots of an array for a list of so many numbers: the first, and each next one a step further.
-#[derive(Drop)]
+#[derive(Clone, Copy)]
 struct Slots {
     count: usize,
     first: usize,
@@ -32,7 +32,7 @@ struct Slots {
 }
 
 // The values of the first three lines of a net card.
-#[derive(Drop)]
+#[derive(Clone, Copy)]
 struct Heading {
     sheet: u32,
     places: usize,
@@ -40,7 +40,7 @@ struct Heading {
 }
 
 // A net that was read and where the unread remainder starts, or why the card is refused.
-#[derive(Drop)]
+#[derive(Clone, Copy)]
 pub struct NetRead {
     pub read: LineRead,
     pub net: Net,

@@ -19,7 +19,7 @@ use run::Memory;
 use run_card::MemoryLine;
 
 // What the lines say that open a run, or why they are refused.
-#[derive(Drop)]
+#[derive(Clone, Copy)]
 pub struct OpeningRead {
     pub read: LineRead,
     pub memory: Memory,

@@ -5,7 +5,7 @@ use run::Run;
 
 // A run that is being entered: its net, the run of the steps so far as if it closed here (its rest is the sum of the waits since the last firing), and whether
 // it goes on. Nothing is kept that its steps do not give.
-#[derive(Drop)]
+#[derive(Clone, Copy)]
 pub struct OpenRun {
     pub net: Net,
     pub run: Run,
@@ -13,14 +13,14 @@ pub struct OpenRun {
 }
 
 // What opening a run or a step of it says, and the record behind it.
-#[derive(Drop)]
+#[derive(Clone, Copy)]
 pub struct Entered {
     pub checked: Checked,
     pub run: OpenRun,
 }
 
 // What closing a run tells its caller, and the record behind it.
-#[derive(Drop)]
+#[derive(Clone, Copy)]
 pub struct Closing {
     pub reply: Reply,
     pub run: OpenRun,

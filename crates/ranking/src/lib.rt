@@ -17,14 +17,14 @@ use reply::{Checked, Refusal, Reply};
 use run::{Memory, Run};
 
 // How one run stands to another: -1, 0 or 1 and the signed lead, negative for a run that is earlier; or why they are not ranked.
-#[derive(Drop)]
+#[derive(Clone, Copy)]
 pub enum Ranking {
     Ranked { rank: i32, lead: i64 },
     Refused(Refusal),
 }
 
 // An instant of each of two runs, times the denominator of the other: X's lead over Y is the difference.
-#[derive(Drop)]
+#[derive(Clone, Copy)]
 struct Crossed {
     x: u64,
     y: u64,

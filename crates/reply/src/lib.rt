@@ -7,7 +7,7 @@ ghost use Rattle.reply.specs.Respond.{Responded, answer};
 // another sheet, a firing for the next four, both from 1. Of a step of an open run it is the firing being entered, whatever the number. The others have
 // place 0: an output too short, two runs that are not of one order, nets that cannot be joined, by their list of pairs, their starts or their size, and a run
 // that is closed.
-#[derive(Drop)]
+#[derive(Clone, Copy)]
 pub enum Refusal {
     Malformed(usize),
     OutOfRange(usize),
@@ -27,14 +27,14 @@ pub enum Refusal {
 }
 
 // What a check of a value or of one line says.
-#[derive(Drop)]
+#[derive(Clone, Copy)]
 pub enum Checked {
     Passed,
     Refused(Refusal),
 }
 
 // What the caller of an operation with an output is told: how many bytes the answer has, or why there is none.
-#[derive(Drop)]
+#[derive(Clone, Copy)]
 pub enum Reply {
     Written(usize),
     Refused(Refusal),

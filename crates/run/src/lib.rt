@@ -1,7 +1,7 @@
 // Timed runs and firing orders of a net. No function: the types, their cards as forms, and their laws.
 
 // The memory rule: which clocks restart at a firing.
-#[derive(Drop)]
+#[derive(Clone, Copy)]
 pub enum Memory {
     Intermediate,
     Atomic,
@@ -9,14 +9,14 @@ pub enum Memory {
 }
 
 // A firing of a run: the wait before it in parts of a tick, and the transition's number.
-#[derive(Drop)]
+#[derive(Clone, Copy)]
 pub struct Firing {
     pub wait: u32,
     pub fire: u32,
 }
 
 // A timed run of the net on a sheet: a part is one tick divided by the denominator. Slots past the count are no part of it.
-#[derive(Drop)]
+#[derive(Clone, Copy)]
 pub struct Run {
     pub sheet: u32,
     pub memory: Memory,
@@ -27,7 +27,7 @@ pub struct Run {
 }
 
 // A firing order of the net on a sheet. Slots past the count are no part of it.
-#[derive(Drop)]
+#[derive(Clone, Copy)]
 pub struct Order {
     pub sheet: u32,
     pub memory: Memory,

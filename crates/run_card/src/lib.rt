@@ -15,21 +15,21 @@ use reply::{Checked, Refusal, Reply};
 use run::{Firing, Memory, Order, Run};
 
 // The memory rule of a line and the position behind the line, or why there is none.
-#[derive(Drop)]
+#[derive(Clone, Copy)]
 pub enum MemoryLine {
     Value { memory: Memory, next: usize },
     Refused(Refusal),
 }
 
 // A firing and the position behind its two lines, or why there is none.
-#[derive(Drop)]
+#[derive(Clone, Copy)]
 enum OneFiring {
     Value { wait: u32, fire: u32, next: usize },
     Refused(Refusal),
 }
 
 // The values of the first four lines of a run card.
-#[derive(Drop)]
+#[derive(Clone, Copy)]
 struct Heading {
     sheet: u32,
     memory: Memory,
@@ -38,14 +38,14 @@ struct Heading {
 }
 
 // A run that was read, or why its card is refused.
-#[derive(Drop)]
+#[derive(Clone, Copy)]
 pub struct RunRead {
     pub read: LineRead,
     pub run: Run,
 }
 
 // An order that was read, or why its card is refused.
-#[derive(Drop)]
+#[derive(Clone, Copy)]
 pub struct OrderRead {
     pub read: LineRead,
     pub order: Order,

@@ -13,14 +13,14 @@ use steps::Terms;
 use timing::Window;
 
 // What the tokens say of an order, and the window of each firing; no window where they forbid it.
-#[derive(Drop)]
+#[derive(Clone, Copy)]
 struct Collected {
     checked: Checked,
     windows: [Window; 64],
 }
 
 // A timetable, or why there is none.
-#[derive(Drop)]
+#[derive(Clone, Copy)]
 pub struct Timetabled {
     pub checked: Checked,
     pub run: Run,

@@ -11,7 +11,7 @@ use open_run::{Entered, OpenRun};
 use reply::{Checked, Refusal, Reply};
 
 // What a line asks for: a step, the closing, a call, or nothing that there is.
-#[derive(Drop)]
+#[derive(Clone, Copy)]
 pub enum Entry {
     Wait(u32),
     Fire(u32),
@@ -22,7 +22,7 @@ pub enum Entry {
 }
 
 // How many bytes the answer to a line has, and the record behind it.
-#[derive(Drop)]
+#[derive(Clone, Copy)]
 pub struct Answered {
     pub length: usize,
     pub run: OpenRun,

@@ -16,7 +16,7 @@ use run::{Memory, Run};
 use std::num;
 
 // What a step goes by beside the weights: the counts of a net, the memory word, and the parts of a tick.
-#[derive(Drop)]
+#[derive(Clone, Copy)]
 pub struct Terms {
     pub places: usize,
     pub transitions: usize,
@@ -25,7 +25,7 @@ pub struct Terms {
 }
 
 // A firing of t at an instant under a memory word, in a net with so many places and transitions.
-#[derive(Drop)]
+#[derive(Clone, Copy)]
 struct Fire {
     places: usize,
     transitions: usize,
@@ -35,7 +35,7 @@ struct Fire {
 }
 
 // The tokens of each place behind a firing's taking and behind its giving, and whether no place passes 255; if one does, the last marking does not count.
-#[derive(Drop)]
+#[derive(Clone, Copy)]
 struct Moved {
     within: bool,
     middle: [u8; 16],

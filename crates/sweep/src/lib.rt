@@ -11,21 +11,21 @@ use timing::Window;
 
 // The earliest instants: of the first `failed` windows, the last cannot be met with the others; 0 where all are met, and then by these instants. All other
 // slots hold 0.
-#[derive(Drop)]
+#[derive(Clone, Copy)]
 pub struct Earliest {
     pub failed: usize,
     pub instants: [u64; 65],
 }
 
 // The upper bound of a window, in ticks.
-#[derive(Drop)]
+#[derive(Clone, Copy)]
 struct Bound {
     bounded: bool,
     high: u64,
 }
 
 // Windows in four lists.
-#[derive(Drop)]
+#[derive(Clone, Copy)]
 struct Lists {
     origin: [usize; 64],
     low: [u64; 64],
@@ -34,7 +34,7 @@ struct Lists {
 }
 
 // What a sweep forward raised: the window of the first firing that rose, and the last firing that rose; k and 0 where none of the k firings did.
-#[derive(Drop)]
+#[derive(Clone, Copy)]
 struct Risen {
     first: usize,
     to: usize,

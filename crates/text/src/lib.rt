@@ -8,7 +8,7 @@ ghost use Rattle.text.specs.Number.{is_digit, class_of, separator, closed, field
 ghost use Rattle.text.specs.Decimal.{width, decimal, field};
 
 // What a byte is to a reader of cards; the digits from 1 on with their value.
-#[derive(Drop)]
+#[derive(Clone, Copy)]
 enum ByteClass {
     Zero,
     Digit(u8),
@@ -50,7 +50,7 @@ fn is_digit(b: u8) -> bool
 }
 
 // A number and the position behind it, or that no number of the right form stands there.
-#[derive(Drop)]
+#[derive(Clone, Copy)]
 pub enum NumberRead {
     Value { value: u32, next: usize },
     NoNumber,
@@ -234,7 +234,7 @@ fn power(k: usize) -> u64
 }
 
 // How often a power of ten was subtracted from a number, and what is left of it.
-#[derive(Drop)]
+#[derive(Clone, Copy)]
 struct Subtracted {
     times: u8,
     left: u64,

@@ -1,0 +1,6 @@
+use Rattle.std.proofs.Common.{arith, rules}
+use Rattle.steps.proofs.Places.{room_limit}
+use Rattle.steps.proofs.fits.Goals as goal
+
+pub returns : goal.returns
+returns c = room_limit c.args.left c.args.given (omega arith)

@@ -1,0 +1,13 @@
+-- The flags passed hold what they held or the test.
+use Rattle.std.proofs.Common.{◌+◌, ◌-◌, ◌*◌, false, ◌||◌, ltb, get_or, refl, rules}
+use Rattle.laws.specs.Arrays.{Filling, fill_start, fill_store, fill_ahead, fill_done}
+use Rattle.steps.proofs.mark.Goals as goal
+
+pub loop-u-init : goal.loop-u-init
+loop-u-init c = fill_start _ _ _
+
+pub loop-u-preserved : goal.loop-u-preserved
+loop-u-preserved c = fill_store c.loop-u.invariant c.loop-u-test.true (rw (fill_ahead c.loop-u.invariant false) refl)
+
+pub returns : goal.returns
+returns c = fill_done c.loop-u.invariant c.loop-u-test.false
