@@ -1,8 +1,7 @@
 -- The slots passed say whether their transitions have enough tokens.
-use Rattle.std.proofs.Common.{◌-◌, ◌≤◌, refl, ◌∙◌, arith, rules}
+use Rattle.std.proofs.Common.{◌≤◌, refl, ◌∙◌, arith}
 use native.Mathlib.Nat.{min-le_right}
-use Rattle.laws.specs.Arrays.{Filling, fill_start, fill_store, fill_done}
-use Rattle.firing.specs.Semantics.{enough}
+use Rattle.laws.specs.Arrays.{fill_start, fill_store, fill_done}
 use Rattle.steps.proofs.enabled_flags.Goals as goal
 
 pub loop-u-init : goal.loop-u-init

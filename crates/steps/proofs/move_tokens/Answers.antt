@@ -1,8 +1,8 @@
 -- The tokens of the places passed have moved (`Moving`).
-use Rattle.std.proofs.Common.{◌-◌, arith, rules}
+use Rattle.std.proofs.Common.{arith}
 use Rattle.firing.specs.Semantics.{Arcs}
 use Rattle.steps.specs.Code.{arcs_by}
-use Rattle.steps.proofs.Places.{Moving, enough_at, moving_start, moving_more, moving_done}
+use Rattle.steps.proofs.Places.{enough_at, moving_start, moving_more, moving_done}
 use Rattle.steps.proofs.move_tokens.Goals as goal
 
 pub loop-p-init : goal.loop-p-init

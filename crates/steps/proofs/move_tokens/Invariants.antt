@@ -1,8 +1,7 @@
 -- The tokens of the places passed have moved (`Moving`).
-use Rattle.std.proofs.Common.{◌-◌, arith, rules}
-use Rattle.firing.specs.Semantics.{Arcs}
+use Rattle.std.proofs.Common.{◌-◌}
 use Rattle.steps.specs.Code.{arcs_by}
-use Rattle.steps.proofs.Places.{Moving, enough_at, moving_start, moving_more, moving_done}
+use Rattle.steps.proofs.Places.{Moving}
 use Rattle.steps.proofs.move_tokens.Given as goal
 
 abbrev pub invariant-loop-p : goal.invariant-loop-p

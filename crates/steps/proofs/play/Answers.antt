@@ -1,5 +1,5 @@
 -- The firings that are left come to what the whole run comes to (`Playing`).
-use Rattle.std.proofs.Common.{◌≡◌, ◌-◌, ◌<◌, min, length, get_or, sym, ◌∙◌, ⊎_elim, arith, rules}
+use Rattle.std.proofs.Common.{◌≡◌, ◌<◌, min, length, get_or, sym, ◌∙◌, arith, rules}
 use native.Mathlib.Nat.{min-le_right}
 use lib.ListN.{get_or-eq_default}
 use Rattle.laws.specs.Tables.{length_mapped}
@@ -7,7 +7,7 @@ use Rattle.net.specs.Net.{no_transition}
 use Rattle.run.specs.declared.Firing.{Firing}
 use Rattle.run.specs.Run.{no_firing}
 use Rattle.firing.specs.Semantics.{start_marking, transition_at}
-use Rattle.steps.proofs.Playing.{Playing, playing_start, playing_done, playing_refused, playing_more}
+use Rattle.steps.proofs.Playing.{playing_start, playing_done, playing_refused, playing_more}
 use Rattle.steps.proofs.play.Goals as goal
 use Rattle.steps.proofs.play.Goals.{then-t-lt32, else-t-lt32}
 

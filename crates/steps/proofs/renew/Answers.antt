@@ -1,5 +1,5 @@
 -- Those that are marked have restarted, if there are any; and t, if the word says so.
-use Rattle.std.proofs.Common.{◌≡◌, Bool, true, false, cond, ◌&&◌, set, sym, ◌∙◌, ⊎_elim, rules}
+use Rattle.std.proofs.Common.{◌≡◌, Bool, true, false, cond, ◌&&◌, set, sym, ◌∙◌}
 use Rattle.firing.specs.Semantics.{Arcs, restarts_fired}
 use Rattle.steps.specs.Code.{arcs_by, restarted, renewed_by}
 use Rattle.steps.proofs.Restarts.{restarted_none, renewed_by_lem}

@@ -1,7 +1,6 @@
 -- The transitions passed have restarted where they are marked and enabled.
-use Rattle.std.proofs.Common.{◌-◌, false, cond, ◌&&◌, get_or, sym, refl, ◌∙◌, ⊎_elim, rules}
-use Rattle.laws.specs.Arrays.{Filling, fill_start, fill_store, fill_keep, fill_done}
-use Rattle.firing.specs.Semantics.{enough}
+use Rattle.std.proofs.Common.{sym, refl, ◌∙◌}
+use Rattle.laws.specs.Arrays.{fill_start, fill_store, fill_keep, fill_done}
 use Rattle.steps.specs.Code.{restarted}
 use Rattle.steps.proofs.restart_marked.Goals as goal
 use Rattle.steps.proofs.restart_marked.Goals.{then-marks-u+then-has_enough, then-marks-u+else-has_enough, else-marks-u}

@@ -1,8 +1,8 @@
 -- The places passed have left their marks (`Marked`).
-use Rattle.std.proofs.Common.{◌-◌, ⊎_elim, arith, rules}
+use Rattle.std.proofs.Common.{arith}
 use Rattle.firing.specs.Semantics.{Arcs}
 use Rattle.steps.specs.Code.{arcs_by}
-use Rattle.steps.proofs.Restarts.{Marked, marked_start, marked_given, marked_none, marked_done}
+use Rattle.steps.proofs.Restarts.{marked_start, marked_given, marked_none, marked_done}
 use Rattle.steps.proofs.short_marks.Goals as goal
 use Rattle.steps.proofs.short_marks.Goals.{then-give-fire-ne0, else-give-fire-ne0}
 

@@ -1,8 +1,7 @@
 -- The places passed have left their marks (`Marked`).
-use Rattle.std.proofs.Common.{◌-◌, ⊎_elim, arith, rules}
-use Rattle.firing.specs.Semantics.{Arcs}
+use Rattle.std.proofs.Common.{◌-◌}
 use Rattle.steps.specs.Code.{arcs_by}
-use Rattle.steps.proofs.Restarts.{Marked, marked_start, marked_given, marked_none, marked_done}
+use Rattle.steps.proofs.Restarts.{Marked}
 use Rattle.steps.proofs.short_marks.Given as goal
 
 abbrev pub invariant-loop-p : goal.invariant-loop-p

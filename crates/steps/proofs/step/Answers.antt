@@ -1,5 +1,5 @@
 -- Each way out of the step is a case of the judgement.
-use Rattle.std.proofs.Common.{◌≡◌, ◌-◌, ◌<◌, true, get_or, sym, ◌∙◌, arith, rules}
+use Rattle.std.proofs.Common.{◌≡◌, ◌-◌, ◌<◌, true, get_or, sym, ◌∙◌, arith}
 use borrow.Author.Tests.{not-true, not-false}
 use Rattle.firing.specs.Semantics.{enabled, enough}
 use Rattle.firing.specs.Replay.{timely}
