@@ -1,1 +1,3 @@
+#![tactic(auto)]
+
 // The causal process of a run. No function: definitions and theorems.

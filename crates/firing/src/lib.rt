@@ -1,4 +1,6 @@
 // The published semantics and the replay of a run. No function: types, definitions and theorems.
+#![tactic(auto)]
+
 use net::Transition;
 use reply::Checked;
 

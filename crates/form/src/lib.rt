@@ -1,4 +1,6 @@
 // Lines of a card: read at a position, checked as values, written to a position.
+#![tactic(auto)]
+
 ghost use Rattle.std.specs.Prelude.{◌≡◌, ◌++◌, ◌≤◌, min, true};
 ghost use Rattle.laws.specs.Writing.{Puts};
 ghost use Rattle.laws.specs.Slots.{first_of};

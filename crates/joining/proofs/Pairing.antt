@@ -6,7 +6,7 @@ use native.Mathlib.Omega.{arith}
 use mathlib.Core.Path.{◌≡◌, refl, sym, ap, ◌∙◌}
 use mathlib.Core.Bool.{Bool, true, false, not, cond, ◌&&◌, ◌||◌, and-false, true≢false}
 use mathlib.Core.List.{List, [], ◌∷◌}
-use mathlib.Core.Option.{none, some}
+use mathlib.Core.Option.{some}
 use lib.ListN.{length, get_or, set, drop, replicate, length-map, length-set, get_or-map, drop_of_length-le}
 use lib.Dec.{ltb, eqb}
 use lib.Seq.{drop-cons, get_or-set_same, get_or-set_other}

@@ -1,4 +1,6 @@
 // Two nets joined on one drawing, over values and over the bytes of cards.
+#![tactic(auto)]
+
 ghost use Rattle.std.specs.Prelude.{◌≡◌, ◌++◌, map, cond, ◌+◌, ◌*◌, ◌≤◌, ◌<◌, length, get_or, set, drop, replicate};
 ghost use Rattle.laws.specs.Arrays.{filled};
 ghost use Rattle.laws.specs.Each.{Each};

@@ -1,1 +1,3 @@
+#![tactic(auto)]
+
 // Laws on lists and numbers that every layer above cites; no function.

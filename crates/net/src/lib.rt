@@ -1,4 +1,5 @@
 // Nets. No function: the types, the net card as a form, and its laws.
+#![tactic(auto)]
 
 // A transition's upper bound, in ticks.
 #[derive(Clone, Copy)]

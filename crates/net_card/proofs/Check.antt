@@ -6,6 +6,8 @@ use mathlib.Core.Path.{◌≡◌, refl, sym, ap, subst, ◌∙◌}
 use mathlib.Core.Bool.{true}
 use mathlib.Core.List.{List, [], ◌∷◌}
 use lib.ListN.{get_or, replicate}
+use mir.Syntax.{w8}
+use mir.Val.{Fits}
 use borrow.Author.Tests.{le-leb}
 use Rattle.laws.specs.Arrays.{filled_most}
 use Rattle.laws.specs.Each.{Each, each_of}
@@ -28,6 +30,10 @@ pub record InBytes (n : Net) : Type 0 where
   pub start : (i : ℕ) → get_or n.start i 0 ≤ 255
   pub take : (i : ℕ) → get_or n.take i 0 ≤ 255
   pub give : (i : ℕ) → get_or n.give i 0 ≤ 255
+
+pub bytes_of : (n : Net) → ((i : ℕ) → Fits w8 (get_or n.start i 0)) → ((i : ℕ) → Fits w8 (get_or n.take i 0)) → ((i : ℕ) → Fits w8 (get_or n.give i 0))
+    → InBytes n
+bytes_of n start take give = record { start = λ i. omega (arith, start i); take = λ i. omega (arith, take i); give = λ i. omega (arith, give i) }
 
 -- ---- what passes
 -- the first numbers of a list of bytes

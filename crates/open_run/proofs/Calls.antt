@@ -1,5 +1,5 @@
 -- The calls read the run as its card would be read: an open record's array holds nothing that is no part of its run, so that the card gives it back.
-use Prim.Native.Nat.{ℕ, ◌+◌}
+use Prim.Native.Nat.{ℕ}
 use native.Mathlib.Nat.{min-eq_left, add-zero}
 use native.Mathlib.Omega.{arith}
 use mathlib.Core.Path.{◌≡◌, refl, sym, ap, subst, ◌∙◌}

@@ -1,6 +1,6 @@
 -- The lines that open a run: what is read from them stands behind a net that passes its check and has its denominator in its range, so that it opens; and what
 -- is refused is refused at one of the lines or, for the range of the denominator, at 0.
-use Prim.Native.Nat.{ℕ, ◌+◌, ◌≤◌, ◌<◌}
+use Prim.Native.Nat.{ℕ, ◌+◌, ◌≤◌}
 use native.Mathlib.Omega.{arith}
 use mathlib.Core.Path.{◌≡◌, sym, ap, subst}
 use mathlib.Core.Bool.{Bool, true, false, cond, ◌&&◌}

@@ -1,4 +1,6 @@
 // Runs that are entered step by step. No function: the types, what each step and call comes to, and the theorems of the request.
+#![tactic(auto)]
+
 use net::Net;
 use reply::{Checked, Reply};
 use run::Run;

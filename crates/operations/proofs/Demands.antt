@@ -1,6 +1,6 @@
 -- The demands, proved as specs/Demands.antt states them, under the same names. Each follows from a law of its subject in the crates below, and from what an
 -- operation does around it: check or read, reply, write.
-use Prim.Native.Nat.{ℕ, ◌+◌, ◌≤◌}
+use Prim.Native.Nat.{ℕ, ◌≤◌}
 use native.Mathlib.Nat.{zero-add}
 use native.Mathlib.Omega.{arith}
 use mathlib.Core.Path.{◌≡◌, refl, sym, ap, subst, ◌∙◌}

@@ -9,7 +9,6 @@ use lib.ListN.{length, length-append}
 use Rattle.laws.specs.Slots.{first_of, length_first}
 use Rattle.reply.specs.declared.Checked.{Checked}
 use Rattle.reply.specs.declared.Checked.TheVariants as checked
-use Rattle.reply.specs.declared.Reply.TheVariants.{Refused}
 use Rattle.reply.specs.Respond.{Outcome, answer}
 use Rattle.reply.proofs.Bounds.{Bounds}
 use Rattle.text.specs.Key.{bytes}

@@ -1,6 +1,6 @@
 -- The three demands as statements, each under its sentence and in the customer's order (docs/DEMANDS.md); proofs/Demands.antt proves each of them under the
 -- same name in small letters. The contract of an operation is `Responded` with its outcome, for the reply and the output at exit.
-use Rattle.std.specs.Prelude.{ℕ, ◌+◌, ◌≤◌, ◌<◌, ◌≡◌, ◌↔◌, List, ◌++◌, length, get_or, take}
+use Rattle.std.specs.Prelude.{ℕ, ◌≤◌, ◌<◌, ◌≡◌, ◌↔◌, List, ◌++◌, length, get_or, take}
 use Rattle.reply.specs.declared.Refusal.{Refusal}
 use Rattle.reply.specs.declared.Refusal.TheVariants.{Untimable}
 use Rattle.reply.specs.declared.Checked.TheVariants as checked

@@ -1,4 +1,6 @@
 // Refusals with their numbers and positions, and the reply of every operation that writes an answer into a lent output.
+#![tactic(auto)]
+
 ghost use Rattle.std.specs.Prelude.{◌≡◌};
 ghost use Rattle.reply.specs.Refusal.{number_of, position_of};
 ghost use Rattle.reply.specs.Respond.{Responded, answer};

@@ -1,4 +1,5 @@
 // Timed runs and firing orders of a net. No function: the types, their cards as forms, and their laws.
+#![tactic(auto)]
 
 // The memory rule: which clocks restart at a firing.
 #[derive(Clone, Copy)]

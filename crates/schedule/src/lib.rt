@@ -1,4 +1,6 @@
 // Whole-tick runs: a run rounded down, and the earliest timetable of a firing order.
+#![tactic(auto)]
+
 ghost use Rattle.std.specs.Prelude.{◌≡◌, ◌+◌, ◌*◌, ◌-◌, ◌/◌, ◌≤◌, min};
 ghost use Rattle.net.specs.Net.{no_transition};
 ghost use Rattle.timing.specs.Rounding.{rounded_run};

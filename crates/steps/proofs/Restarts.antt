@@ -4,7 +4,6 @@
 use Rattle.std.proofs.Common.{◌≡◌, ℕ, ◌+◌, ◌-◌, ◌<◌, ◌≤◌, Bool, true, false, cond, not, ◌&&◌, ◌||◌, eqb, ltb, leb, List, length, get_or, set, replicate, sym, refl, ap, ◌∙◌, arith, le-ltb, lt-ltb, eq-eqb, ne_eqb, eqb-true, le-leb, leb-false, leb-true}
 use mathlib.Core.Bool.{or-true, or-false, and-false, and_comm, and-eq-true_iff}
 use lib.ListN.{get_or-replicate}
-use borrow.Author.Tests.{eqb-false}
 use Rattle.laws.specs.Tests.{all_same, any_below, any_start, any_more, any_none}
 use Rattle.laws.specs.Arrays.{filled, length_filled, filled_at, filled_same, filled_idle, filled_set, filled_most, filled_least}
 use Rattle.run.specs.declared.Memory.{Memory}

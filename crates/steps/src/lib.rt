@@ -1,4 +1,6 @@
 // One step of a run, judged and fired, and the firings of a run.
+#![tactic(auto)]
+
 ghost use Rattle.std.specs.Prelude.{◌≡◌, ℕ, ◌+◌, ◌-◌, ◌<◌, ◌≤◌, min, true, false, ◌||◌, get_or, replicate, nat_le, nat_lt, slice_index, slice_index_or};
 ghost use Rattle.laws.specs.Tests.{any_below};
 ghost use Rattle.laws.specs.Arrays.{filled};

@@ -1,5 +1,7 @@
 // The earliest instants of windows. Firings enter one after the other; where the new one is past its upper bound, instants are raised by sweeps back
 // along upper bounds and forward along order and lower bounds. The work depends on the number of windows, not on the size of their bounds.
+#![tactic(auto)]
+
 ghost use Rattle.std.specs.Prelude.{◌≡◌, cond, ℕ, suc, ◌+◌, ◌*◌, ◌-◌, ◌<◌, ◌≤◌, ◌^◌, min, max, length};
 ghost use Rattle.timing.specs.Solve.{instant_at, solve_prefixes};
 ghost use Rattle.sweep.specs.Arrays.{entry, upper_in, window_in, uppers, Listed, earliest_by, earliest_of};

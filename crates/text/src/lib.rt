@@ -1,4 +1,6 @@
 // The bytes of a card: keys, words and decimal numbers, compared or read at a position and written to a position.
+#![tactic(auto)]
+
 ghost use Rattle.std.specs.Prelude.{◌≡◌, suc, ◌+◌, ◌*◌, ◌^◌, ◌≤◌, ◌<◌, [], ◌∷◌, length, get_or, drop};
 ghost use Rattle.laws.specs.Writing.{Puts};
 ghost use Rattle.text.specs.declared.ByteClass.TheVariants.{Digit};

@@ -1,6 +1,6 @@
 -- Document 01: "Each clock and each instant moves by less than one tick." A run and its rounded run restart each clock at the same firing, whose instant
 -- is rounded down; and so is the instant at which the clock is read. For any restart rule.
-use Prim.Native.Nat.{ℕ, zero, suc, ◌+◌, ◌*◌, ◌/◌, ◌<◌}
+use Prim.Native.Nat.{ℕ, suc, ◌+◌, ◌*◌, ◌/◌, ◌<◌}
 use native.Mathlib.Omega.{arith}
 use mathlib.Core.Path.{◌≡◌, sym, ap, ◌∙◌}
 use mathlib.Core.List.{List}

@@ -1,11 +1,5 @@
 -- The numbers are put one after another, each with what stands behind it (`Putting`).
-use Prim.Native.Nat.{◌+◌, ◌-◌}
-use lib.Dec.{eqb}
-use lib.ListN.{get_or}
-use Rattle.laws.specs.Writing.{Putting, putting_start, putting_more, putting_done}
-use Rattle.laws.specs.Slots.{first_of}
-use Rattle.text.specs.Decimal.{field}
-use Rattle.form.specs.Line.{items_text}
+use Rattle.laws.specs.Writing.{putting_start, putting_more, putting_done}
 use Rattle.form.proofs.Items.{items_joined}
 use Rattle.form.proofs.put_items.Goals as goal
 

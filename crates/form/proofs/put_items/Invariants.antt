@@ -2,12 +2,10 @@
 use Prim.Native.Nat.{◌+◌, ◌-◌}
 use lib.Dec.{eqb}
 use lib.ListN.{get_or}
-use borrow.Author.Rules.{rules}
-use Rattle.laws.specs.Writing.{Putting, putting_start, putting_more, putting_done}
+use Rattle.laws.specs.Writing.{Putting}
 use Rattle.laws.specs.Slots.{first_of}
 use Rattle.text.specs.Decimal.{field}
 use Rattle.form.specs.Line.{items_text}
-use Rattle.form.proofs.Items.{items_joined}
 use Rattle.form.proofs.put_items.Given as goal
 
 abbrev pub invariant-loop-i : goal.invariant-loop-i

@@ -1,6 +1,6 @@
 -- The flags passed are joined so far.
-use Rattle.std.proofs.Common.{◌≡◌, ◌-◌, ◌≤◌, false, get_or, sym, arith, rules}
-use Rattle.laws.specs.Tests.{any_below, any_start, any_more}
+use Rattle.std.proofs.Common.{◌≡◌, false, get_or, sym, arith, rules}
+use Rattle.laws.specs.Tests.{any_start, any_more}
 use Rattle.steps.proofs.any_marked.Goals as goal
 
 pub loop-u-init : goal.loop-u-init

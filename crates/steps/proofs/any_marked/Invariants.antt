@@ -1,6 +1,6 @@
 -- The flags passed are joined so far.
-use Rattle.std.proofs.Common.{◌≡◌, ◌-◌, ◌≤◌, false, get_or, sym, arith, rules}
-use Rattle.laws.specs.Tests.{any_below, any_start, any_more}
+use Rattle.std.proofs.Common.{◌≡◌, ◌-◌, ◌≤◌, false, get_or}
+use Rattle.laws.specs.Tests.{any_below}
 use Rattle.steps.proofs.any_marked.Given as goal
 
 abbrev pub invariant-loop-u : goal.invariant-loop-u

@@ -1,7 +1,6 @@
 -- The slots passed say whether their transitions have enough tokens.
-use Rattle.std.proofs.Common.{◌-◌, ◌≤◌, refl, ◌∙◌, arith, rules}
-use native.Mathlib.Nat.{min-le_right}
-use Rattle.laws.specs.Arrays.{Filling, fill_start, fill_store, fill_done}
+use Rattle.std.proofs.Common.{◌-◌}
+use Rattle.laws.specs.Arrays.{Filling}
 use Rattle.firing.specs.Semantics.{enough}
 use Rattle.steps.proofs.enabled_flags.Given as goal
 

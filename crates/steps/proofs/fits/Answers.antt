@@ -1,4 +1,4 @@
-use Rattle.std.proofs.Common.{arith, rules}
+use Rattle.std.proofs.Common.{arith}
 use Rattle.steps.proofs.Places.{room_limit}
 use Rattle.steps.proofs.fits.Goals as goal
 

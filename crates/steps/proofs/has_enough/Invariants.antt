@@ -1,8 +1,6 @@
 -- The scan has found no short place so far (`Scanned`); the first short one answers for all, and so does the end.
-use Rattle.std.proofs.Common.{◌-◌, sym, rules, le-leb}
-use borrow.Author.Tests.{lt-leb}
-use Rattle.laws.specs.Tests.{all_fails, Scanned, scan_start, scan_more, scan_done}
-use Rattle.firing.specs.Semantics.{enough}
+use Rattle.std.proofs.Common.{◌-◌}
+use Rattle.laws.specs.Tests.{Scanned}
 use Rattle.steps.proofs.Places.{has_enough}
 use Rattle.steps.proofs.has_enough.Given as goal
 

@@ -1,5 +1,5 @@
 -- The number is tested first, then the tokens.
-use Rattle.std.proofs.Common.{refl, rules, le-ltb, lt-ltb}
+use Rattle.std.proofs.Common.{refl, le-ltb, lt-ltb}
 use Rattle.steps.proofs.is_enabled.Goals as goal
 
 pub returns-then-fire : goal.returns-then-fire

@@ -1,6 +1,6 @@
 -- The flags passed hold what they held or the test.
-use Rattle.std.proofs.Common.{◌+◌, ◌-◌, ◌*◌, false, ◌||◌, ltb, get_or, refl, rules}
-use Rattle.laws.specs.Arrays.{Filling, fill_start, fill_store, fill_ahead, fill_done}
+use Rattle.std.proofs.Common.{false, refl}
+use Rattle.laws.specs.Arrays.{fill_start, fill_store, fill_ahead, fill_done}
 use Rattle.steps.proofs.mark.Goals as goal
 
 pub loop-u-init : goal.loop-u-init

@@ -1,6 +1,6 @@
 -- The flags passed hold what they held or the test.
-use Rattle.std.proofs.Common.{◌+◌, ◌-◌, ◌*◌, false, ◌||◌, ltb, get_or, refl, rules}
-use Rattle.laws.specs.Arrays.{Filling, fill_start, fill_store, fill_ahead, fill_done}
+use Rattle.std.proofs.Common.{◌+◌, ◌-◌, ◌*◌, false, ◌||◌, ltb, get_or}
+use Rattle.laws.specs.Arrays.{Filling}
 use Rattle.steps.proofs.mark.Given as goal
 
 abbrev pub invariant-loop-u : goal.invariant-loop-u

@@ -1,5 +1,5 @@
 -- The products fit, being of two numbers of 32 bits; each answer is that of the test that settles the matter.
-use Rattle.std.proofs.Common.{◌≤◌, mul-le-mul, arith, rules, le-leb}
+use Rattle.std.proofs.Common.{◌≤◌, mul-le-mul, arith, le-leb}
 use borrow.Author.Tests.{lt-leb}
 use Rattle.firing.specs.Replay.{timely}
 use Rattle.steps.proofs.on_time.Goals as goal

@@ -1,33 +1,53 @@
 -- Those that are marked have restarted, if there are any; and t, if the word says so.
-use Rattle.std.proofs.Common.{◌≡◌, Bool, true, false, cond, ◌&&◌, set, sym, ◌∙◌, ⊎_elim, rules}
+use Rattle.std.proofs.Common.{◌≡◌, Bool, true, false, cond, ◌&&◌, set, sym, ◌∙◌}
 use Rattle.firing.specs.Semantics.{Arcs, restarts_fired}
 use Rattle.steps.specs.Code.{arcs_by, restarted, renewed_by}
 use Rattle.steps.proofs.Restarts.{restarted_none, renewed_by_lem}
 use Rattle.steps.proofs.renew.Goals as goal
-
--- the net of the firing
-abbrev net : tie.Start → Arcs
-net s = arcs_by s.args.fire s.args.take.now s.args.give.now
-
--- and t with them, if the word restarts it and it has enough
-restarts : (c : tie.After-has-enough) (b : Bool) → (c.before.restarts-fired.result && c.has-enough.result) ≡ b
-    → let j = c.before.before in let s = j.before.before.before.before in let a = s.args in
-    cond b (set j.if1.since a.fire.t a.fire.instant) j.if1.since
-    ≡ renewed_by (net s) (restarts_fired a.fire.memory) a.looked.now a.later.now a.fire.t a.fire.instant a.since.now
-restarts c b told =
-    let j = c.before.before in
-    let k = j.before.before.before in
-    let s = k.before in
-    let a = s.args in
-    renewed_by_lem (net s) a.later.now a.fire.instant a.since.now (restarts_fired a.fire.memory) a.looked.now a.fire.t s.requires.1
-    k.short-marks.result
-    k.short-marks.ensures
-    (marked j)
-    b
-    (rw (← c.before.restarts-fired.ensures, ← c.has-enough.ensures) told)
+use Rattle.steps.proofs.renew.Goals.{then-any_marked, else-any_marked}
 
 pub returns-then-restarts_fired-has_enough : goal.returns-then-restarts_fired-has_enough
-returns-then-restarts_fired-has_enough c = restarts c true c.if-restarts_fired-has_enough.true
+unfolding restarted
+returns-then-restarts_fired-has_enough c =
+    let net : Arcs =
+    arcs_by c.args.fire c.args.take.now c.args.give.now in
+    let marked : c.if-any_marked.since ≡ restarted net c.args.later.now c.short_marks-marks.result c.args.fire.instant c.args.since.now =
+    elim c.if-any_marked.branch [
+      | then-any_marked w ↦ w.since-is ∙ w.restart_marked.ensures
+      | else-any_marked w ↦
+          w.since-is
+          ∙ restarted_none net c.args.later.now c.args.fire.instant c.args.since.now c.requires.0.transitions
+          c.short_marks-marks.result (sym c.any_marked.ensures ∙ w.if-any_marked.false)
+    ] in
+    let restarts : (b : Bool) → (c.restarts_fired.result && c.has_enough.result) ≡ b → let a = c.args in cond b (set c.if-any_marked.since a.fire.t a.fire.instant) c.if-any_marked.since ≡ renewed_by net (restarts_fired a.fire.memory) a.looked.now a.later.now a.fire.t a.fire.instant a.since.now =
+    λ b told. let a = c.args in
+    renewed_by_lem net a.later.now a.fire.instant a.since.now (restarts_fired a.fire.memory) a.looked.now a.fire.t c.requires.1
+    c.short_marks-marks.result
+    c.short_marks-marks.ensures
+    marked
+    b
+    (rw (← c.restarts_fired.ensures, ← c.has_enough.ensures) told) in
+    restarts true c.if-restarts_fired-has_enough.true
 
 pub returns-else-restarts_fired-has_enough : goal.returns-else-restarts_fired-has_enough
-returns-else-restarts_fired-has_enough c = restarts c false c.if-restarts_fired-has_enough.false
+unfolding restarted
+returns-else-restarts_fired-has_enough c =
+    let net : Arcs =
+    arcs_by c.args.fire c.args.take.now c.args.give.now in
+    let marked : c.if-any_marked.since ≡ restarted net c.args.later.now c.short_marks-marks.result c.args.fire.instant c.args.since.now =
+    elim c.if-any_marked.branch [
+      | then-any_marked w ↦ w.since-is ∙ w.restart_marked.ensures
+      | else-any_marked w ↦
+          w.since-is
+          ∙ restarted_none net c.args.later.now c.args.fire.instant c.args.since.now c.requires.0.transitions
+          c.short_marks-marks.result (sym c.any_marked.ensures ∙ w.if-any_marked.false)
+    ] in
+    let restarts : (b : Bool) → (c.restarts_fired.result && c.has_enough.result) ≡ b → let a = c.args in cond b (set c.if-any_marked.since a.fire.t a.fire.instant) c.if-any_marked.since ≡ renewed_by net (restarts_fired a.fire.memory) a.looked.now a.later.now a.fire.t a.fire.instant a.since.now =
+    λ b told. let a = c.args in
+    renewed_by_lem net a.later.now a.fire.instant a.since.now (restarts_fired a.fire.memory) a.looked.now a.fire.t c.requires.1
+    c.short_marks-marks.result
+    c.short_marks-marks.ensures
+    marked
+    b
+    (rw (← c.restarts_fired.ensures, ← c.has_enough.ensures) told) in
+    restarts false c.if-restarts_fired-has_enough.false

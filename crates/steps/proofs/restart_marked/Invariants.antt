@@ -1,8 +1,7 @@
 -- The transitions passed have restarted where they are marked and enabled.
-use Rattle.std.proofs.Common.{◌-◌, false, cond, ◌&&◌, get_or, sym, refl, ◌∙◌, ⊎_elim, rules}
-use Rattle.laws.specs.Arrays.{Filling, fill_start, fill_store, fill_keep, fill_done}
+use Rattle.std.proofs.Common.{◌-◌, false, cond, ◌&&◌, get_or}
+use Rattle.laws.specs.Arrays.{Filling}
 use Rattle.firing.specs.Semantics.{enough}
-use Rattle.steps.specs.Code.{restarted}
 use Rattle.steps.proofs.restart_marked.Given as goal
 
 abbrev pub invariant-loop-u : goal.invariant-loop-u

@@ -1,16 +1,8 @@
 -- The places passed have left their marks (`Marked`).
-use Rattle.std.proofs.Common.{◌-◌, ⊎_elim, arith, rules}
-use Rattle.firing.specs.Semantics.{Arcs}
+use Rattle.std.proofs.Common.{◌-◌}
 use Rattle.steps.specs.Code.{arcs_by}
-use Rattle.steps.proofs.Restarts.{Marked, marked_start, marked_given, marked_none, marked_done}
+use Rattle.steps.proofs.Restarts.{Marked}
 use Rattle.steps.proofs.short_marks.Given as goal
-
--- the net of the firing, and the turn behind the test
-abbrev pub net : tie.Start invariant-loop decreases-loop → Arcs
-net s = arcs_by s.args.fire s.args.take.now s.args.give.now
-
-abbrev pub turn : tie.Joined2 invariant-loop decreases-loop → tie.Then1 invariant-loop decreases-loop
-turn c = c.before.before.before
 
 abbrev pub invariant-loop-p : goal.invariant-loop-p
 invariant-loop-p l = Marked (arcs_by l.fire l.take l.give) l.looked l.fire.t l.p l.marks

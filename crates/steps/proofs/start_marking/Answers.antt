@@ -1,7 +1,7 @@
 -- The slots passed hold the start's tokens.
-use Rattle.std.proofs.Common.{◌-◌, ◌<◌, get_or, refl, ◌∙◌, arith, rules}
+use Rattle.std.proofs.Common.{◌<◌, refl, ◌∙◌, arith}
 use native.Mathlib.Nat.{min-le_right}
-use Rattle.laws.specs.Arrays.{Filling, fill_start, fill_store, fill_done}
+use Rattle.laws.specs.Arrays.{fill_start, fill_store, fill_done}
 use Rattle.steps.proofs.start_marking.Goals as goal
 
 pub loop-p-init : goal.loop-p-init

@@ -1,7 +1,6 @@
 -- The slots passed hold the start's tokens.
-use Rattle.std.proofs.Common.{◌-◌, ◌<◌, get_or, refl, ◌∙◌, arith, rules}
-use native.Mathlib.Nat.{min-le_right}
-use Rattle.laws.specs.Arrays.{Filling, fill_start, fill_store, fill_done}
+use Rattle.std.proofs.Common.{◌-◌, get_or}
+use Rattle.laws.specs.Arrays.{Filling}
 use Rattle.steps.proofs.start_marking.Given as goal
 
 abbrev pub invariant-loop-p : goal.invariant-loop-p

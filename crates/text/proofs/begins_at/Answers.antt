@@ -1,9 +1,7 @@
 -- A key that is too long for what is left is told at once; else the loop keeps the state of the comparison (`Begins`), and each way out
 -- answers what is left of the key.
-use Prim.Native.Nat.{◌-◌}
-use lib.ListN.{length}
 use native.Mathlib.Omega.{arith}
-use Rattle.text.proofs.CompareKey.{Begins, begins_start, begins_more, begins_differs, begins_behind, begins_longer, begins_all}
+use Rattle.text.proofs.CompareKey.{begins_start, begins_more, begins_differs, begins_behind, begins_longer, begins_all}
 use Rattle.text.proofs.begins_at.Goals as goal
 
 pub returns-then-s-at : goal.returns-then-s-at

@@ -2,9 +2,7 @@
 -- answers what is left of the key.
 use Prim.Native.Nat.{◌-◌}
 use lib.ListN.{length}
-use native.Mathlib.Omega.{arith}
-use Rattle.text.proofs.CompareKey.{Begins, begins_start, begins_more, begins_differs, begins_behind, begins_longer, begins_all}
-use borrow.Author.Rules.{rules}
+use Rattle.text.proofs.CompareKey.{Begins}
 use Rattle.text.proofs.begins_at.Given as goal
 
 abbrev pub invariant-bytes : goal.invariant-bytes

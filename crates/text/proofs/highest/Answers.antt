@@ -1,9 +1,8 @@
 -- Every power up to k is in the number, or k is 0; so the first that is not has as many zeros as the number has digits.
-use Prim.Native.Nat.{◌-◌, ◌^◌, ◌≤◌}
 use native.Mathlib.Numerals.{add-one}
 use native.Mathlib.Omega.{arith}
 use mathlib.Core.Path.{◌≡◌, refl}
-use mathlib.Core.Logic.{◌⊎◌, inl, inr}
+use mathlib.Core.Logic.{inl, inr}
 use Rattle.text.proofs.WriteNumber.{highest_width}
 use Rattle.text.proofs.highest.Goals as goal
 

@@ -1,11 +1,7 @@
 -- Every power up to k is in the number, or k is 0; so the first that is not has as many zeros as the number has digits.
 use Prim.Native.Nat.{◌-◌, ◌^◌, ◌≤◌}
-use native.Mathlib.Numerals.{add-one}
-use native.Mathlib.Omega.{arith}
-use mathlib.Core.Path.{◌≡◌, refl}
-use mathlib.Core.Logic.{◌⊎◌, inl, inr}
-use borrow.Author.Rules.{rules}
-use Rattle.text.proofs.WriteNumber.{highest_width}
+use mathlib.Core.Path.{◌≡◌}
+use mathlib.Core.Logic.{◌⊎◌}
 use Rattle.text.proofs.highest.Given as goal
 
 abbrev pub invariant-loop-k : goal.invariant-loop-k

@@ -2,7 +2,7 @@
 use Prim.Native.Nat.{◌^◌, ◌<◌}
 use native.Mathlib.Omega.{arith}
 use mathlib.Core.Path.{refl}
-use Rattle.text.proofs.WriteNumber.{PuttingDigits, digits_start, digits_more, digits_last, digits_done, times_digit, below_ten}
+use Rattle.text.proofs.WriteNumber.{digits_start, digits_more, digits_last, digits_done, times_digit, below_ten}
 use Rattle.text.proofs.put_digits.Goals as goal
 
 pub loop-k-init : goal.loop-k-init

@@ -1,9 +1,5 @@
 -- The loop keeps `PuttingDigits`: what has been put and the digits of what is left are together those of n. A number of three digits is put apart.
-use Prim.Native.Nat.{◌^◌, ◌<◌}
-use native.Mathlib.Omega.{arith}
-use mathlib.Core.Path.{refl}
-use borrow.Author.Rules.{rules}
-use Rattle.text.proofs.WriteNumber.{PuttingDigits, digits_start, digits_more, digits_last, digits_done, times_digit, below_ten}
+use Rattle.text.proofs.WriteNumber.{PuttingDigits}
 use Rattle.text.proofs.put_digits.Given as goal
 
 abbrev pub invariant-loop-k : goal.invariant-loop-k

@@ -1,8 +1,5 @@
 -- The bytes are put one after another (`Putting`).
-use Prim.Native.Nat.{◌-◌}
-use mathlib.Core.List.{[], ◌∷◌}
-use lib.ListN.{length, get_or}
-use Rattle.laws.specs.Writing.{Putting, putting_start, putting_more, putting_done, bytes_joined}
+use Rattle.laws.specs.Writing.{putting_start, putting_more, putting_done, bytes_joined}
 use Rattle.text.proofs.put_each.Goals as goal
 
 pub loop-i-init : goal.loop-i-init

@@ -1,9 +1,6 @@
 -- What was subtracted and what is left are together the number; so the tenth time does not come.
-use Prim.Native.Nat.{◌+◌, ◌-◌, ◌*◌}
-use native.Mathlib.Nat.{zero-mul}
-use native.Mathlib.Omega.{arith}
+use Prim.Native.Nat.{◌+◌, ◌*◌}
 use mathlib.Core.Path.{◌≡◌}
-use Rattle.text.proofs.WriteNumber.{times_digit, times_more}
 use Rattle.text.proofs.subtract.Given as goal
 
 abbrev pub invariant-loop-left : goal.invariant-loop-left
