@@ -1,5 +1,7 @@
 // Runs each case of its files against the operations of the engine. Prints what a case got where that is not what it expects, and for
 // each file how many cases there are and how many were wrong. A case that cannot be read gets 1 at 0.
+#![tactic(auto)]
+
 mod change;
 mod lines;
 mod live;
@@ -8,7 +10,9 @@ mod trial;
 
 ghost use Rattle.std.specs.Prelude.{◌≤◌};
 
-use libc::STDOUT_FILENO;
+use std::fs::File;
+use std::io::Write;
+use std::rt::Files;
 
 fn same(a: &[u8], b: &[u8]) -> bool {
     if a.len() != b.len() {
@@ -18,14 +22,14 @@ fn same(a: &[u8], b: &[u8]) -> bool {
 }
 
 // The first line of a case and what it got.
-fn print_wrong(name: &[u8], got: &[u8]) {
-    io::write_all(STDOUT_FILENO, name);
-    io::write_all(STDOUT_FILENO, got);
-    io::write_all(STDOUT_FILENO, b"end\n");
+fn print_wrong<W: Write>(to: &mut W, name: &[u8], got: &[u8]) {
+    let _ = to.write_all(name);
+    let _ = to.write_all(got);
+    let _ = to.write_all(b"end\n");
 }
 
 // How many faults the case between two lines has: none or one, which is printed.
-fn faults(s: &[u8], at: usize, next: usize) -> usize
+fn faults<W: Write>(to: &mut W, s: &[u8], at: usize, next: usize) -> usize
     ensures { result ≤ 1 }
 {
     let case = parts::case_at(s, next);
@@ -37,21 +41,16 @@ fn faults(s: &[u8], at: usize, next: usize) -> usize
     if same(text, lines::front(&expected, e)) {
         return 0;
     }
-    print_wrong(lines::part(s, at, next), text);
+    print_wrong(to, lines::part(s, at, next), text);
     1
 }
 
-fn print_count(name: &[u8], cases: usize, wrong: usize) {
-    io::write_all(STDOUT_FILENO, name);
-    io::write_all(STDOUT_FILENO, b": ");
-    io::print_decimal(STDOUT_FILENO, cases as u64);
-    io::write_all(STDOUT_FILENO, b" cases, ");
-    io::print_decimal(STDOUT_FILENO, wrong as u64);
-    io::write_all(STDOUT_FILENO, b" wrong\n");
+fn print_count<W: Write>(to: &mut W, name: &str, cases: usize, wrong: usize) {
+    let _ = writeln!(to, "{name}: {cases} cases, {wrong} wrong");
 }
 
 // Runs all cases of a file's text.
-fn run_all(name: &[u8], s: &[u8]) {
+fn run_all<W: Write>(to: &mut W, name: &str, s: &[u8]) {
     let mut cases: usize = 0;
     let mut wrong: usize = 0;
     let mut at: usize = 0;
@@ -59,34 +58,36 @@ fn run_all(name: &[u8], s: &[u8]) {
         let next = lines::behind(s, at, 10);
         if text::begins_at(s, at, b"case ") {
             cases += 1;
-            wrong += faults(s, at, next);
+            wrong += faults(to, s, at, next);
         }
         at = next;
     }
-    print_count(name, cases, wrong);
+    print_count(to, name, cases, wrong);
 }
 
-// Runs all cases of a file. Of one that does not fit the buffer nothing is printed.
-fn run_file(name: &[u8]) {
-    let fd = os::open_read(name);
-    let mut file = io::large_buffer();
-    let n = io::read_full(fd, &mut file);
-    libc::close(fd);
+// Runs all cases of a file, none of one that is not there. Of one that does not fit the buffer nothing is printed.
+fn run_file<R: Files, W: Write>(rt: &R, to: &mut W, name: &str) {
+    let mut text = [0u8; 65536];
+    let mut n: usize = 0;
+    if let Ok(mut file) = File::open(rt, name) {
+        n = console::read_full(&mut file, &mut text);
+    }
     if n == 65536 {
         return;
     }
-    run_all(name, &file[..n]);
+    run_all(to, name, &text[..n]);
 }
 
-fn main() {
-    run_file(b"cards");
-    run_file(b"values");
-    run_file(b"replay");
-    run_file(b"round");
-    run_file(b"timetable");
-    run_file(b"process");
-    run_file(b"rank");
-    run_file(b"join");
-    run_file(b"join-drawn");
-    run_file(b"live");
+fn main(rt: HostRuntime) {
+    let mut out = rt.stdout();
+    run_file(&rt, &mut out, "cards");
+    run_file(&rt, &mut out, "values");
+    run_file(&rt, &mut out, "replay");
+    run_file(&rt, &mut out, "round");
+    run_file(&rt, &mut out, "timetable");
+    run_file(&rt, &mut out, "process");
+    run_file(&rt, &mut out, "rank");
+    run_file(&rt, &mut out, "join");
+    run_file(&rt, &mut out, "join-drawn");
+    run_file(&rt, &mut out, "live");
 }

@@ -1,16 +1,18 @@
 // Joins two nets: reads a net card, the other's card and the line `pairs`, prints the card of the joined net or why they are not joined.
-use libc::STDIN_FILENO;
+#![tactic(auto)]
 
-fn join(s: &[u8]) {
+use std::io::Write;
+
+fn join<W: Write>(to: &mut W, s: &[u8]) {
     let mut out = [0u8; 5632];
     let r = joining::join_cards(s, &mut out);
-    console::print_reply(r, &out);
+    let _ = console::print_reply(to, r, &out);
 }
 
 // A line `pairs` that does not end within 65,536 bytes has no end: the byte behind them is not looked at, but that there is one is.
-fn main() {
+fn main(rt: HostRuntime) {
     let mut input = [0u8; 65537];
-    let n = io::read_full(STDIN_FILENO, &mut input);
+    let n = console::read_full(&mut rt.stdin(), &mut input);
     input[65536] = 0;
-    join(&input[..n]);
+    join(&mut rt.stdout(), &input[..n]);
 }

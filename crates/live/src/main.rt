@@ -1,10 +1,12 @@
 // Enters a run live: reads a net card, the lines `sheet`, `memory` and `denominator`, then steps and calls, and answers each line as it comes.
+#![tactic(auto)]
+
 ghost use Rattle.std.specs.Prelude.{◌-◌, ◌≤◌, length};
 
 use form::LineRead;
-use libc::{STDIN_FILENO, STDOUT_FILENO};
 use open_run::OpenRun;
 use reply::Refusal;
+use std::io::{Read, Write};
 
 // The run that is being entered: its record, the number of the next line, the part of the buffer that is not answered, and whether it goes on: the input has
 // not ended, the next line may yet end, and the answers are read.
@@ -29,15 +31,15 @@ fn part(s: &[u8], from: usize, to: usize) -> &[u8] {
 }
 
 // Reads what has come into a buffer, from a position on; how many bytes, none where the input has ended or the buffer is full.
-fn read_some(buffer: &mut [u8], from: usize) -> usize
+fn read_some<R: Read>(input: &mut R, buffer: &mut [u8], from: usize) -> usize
     ensures { result ≤ length buffer.old - from }
 {
     if buffer.len() <= from {
         return 0;
     }
     let tail = &mut buffer[from..];
-    let got = libc::read(STDIN_FILENO, tail);
-    io::count(got, tail)
+    let got = input.read(tail);
+    got.unwrap_or(0)
 }
 
 // ---- the opening
@@ -79,10 +81,10 @@ fn is_settled(s: &[u8]) -> bool {
 }
 
 // Reads the input until that is settled, until it ends or until the buffer is full; how many bytes have come.
-fn read_opening(buffer: &mut [u8]) -> usize {
+fn read_opening<R: Read>(input: &mut R, buffer: &mut [u8]) -> usize {
     let mut n: usize = 0;
     while n < buffer.len() {
-        let more = read_some(&mut *buffer, n);
+        let more = read_some(input, &mut *buffer, n);
         if more == 0 {
             return n;
         }
@@ -95,24 +97,24 @@ fn read_opening(buffer: &mut [u8]) -> usize {
 }
 
 // Prints what a net card and the lines behind it say of the opening: whether the run is open.
-fn print_opening(card: LineRead, lines: LineRead) -> bool {
+fn print_opening<W: Write>(to: &mut W, card: LineRead, lines: LineRead) -> bool {
     match card {
         LineRead::Stopped(e) => {
-            console::print_refusal(e);
+            let _ = console::print_refusal(to, e);
             false
         }
         LineRead::Next(_) => match lines {
             LineRead::Stopped(e) => {
-                console::print_refusal(e);
+                let _ = console::print_refusal(to, e);
                 false
             }
-            LineRead::Next(_) => io::write_all(STDOUT_FILENO, b"ok\n"),
+            LineRead::Next(_) => to.write_all(b"ok\n").is_ok(),
         },
     }
 }
 
 // Opens the run of a text; the lines from number 4 on follow.
-fn open(s: &[u8]) -> LiveRun {
+fn open<W: Write>(to: &mut W, s: &[u8]) -> LiveRun {
     let n = net_card::read_net(s);
     let net = n.net;
     let card = n.read;
@@ -128,7 +130,7 @@ fn open(s: &[u8]) -> LiveRun {
         number: 4,
         at: s.len() - left.len(),
         end: s.len(),
-        going: print_opening(card, lines),
+        going: print_opening(to, card, lines),
     }
 }
 
@@ -155,12 +157,12 @@ fn line_end(s: &[u8], at: usize) -> usize {
 }
 
 // Prints the first bytes of an output; whether they were written.
-fn print_front(out: &[u8; 2048], n: usize) -> bool {
-    io::write_all(STDOUT_FILENO, part(out, 0, n))
+fn print_front<W: Write>(to: &mut W, out: &[u8; 2048], n: usize) -> bool {
+    to.write_all(part(out, 0, n)).is_ok()
 }
 
 // Answers a line, behind which stands the position.
-fn answer(c: LiveRun, line: &[u8], next: usize) -> LiveRun {
+fn answer<W: Write>(to: &mut W, c: LiveRun, line: &[u8], next: usize) -> LiveRun {
     let mut out = [0u8; 2048];
     let before = c.run;
     let a = session::answer_line(before, c.number, line, &mut out);
@@ -170,7 +172,7 @@ fn answer(c: LiveRun, line: &[u8], next: usize) -> LiveRun {
         number: following(c.number),
         at: next,
         end: c.end,
-        going: print_front(&out, a.length),
+        going: print_front(to, &out, a.length),
     }
 }
 
@@ -195,19 +197,19 @@ fn move_to_front(buffer: &mut [u8], at: usize, end: usize) -> usize {
 }
 
 // What ends the input where no line does is 1 at its number.
-fn print_unended(number: usize, bytes: usize) {
+fn print_unended<W: Write>(to: &mut W, number: usize, bytes: usize) {
     if 0 < bytes {
-        console::print_refusal(Refusal::Malformed(number));
+        let _ = console::print_refusal(to, Refusal::Malformed(number));
     }
 }
 
 // Reads on, behind the part that is not answered, which is moved to the front.
-fn read_on(c: LiveRun, buffer: &mut [u8]) -> LiveRun {
+fn read_on<R: Read, W: Write>(input: &mut R, to: &mut W, c: LiveRun, buffer: &mut [u8]) -> LiveRun {
     let run = c.run;
     let left = move_to_front(&mut *buffer, c.at, c.end);
-    let more = read_some(buffer, left);
+    let more = read_some(input, buffer, left);
     if more == 0 {
-        print_unended(c.number, left);
+        print_unended(to, c.number, left);
     }
     LiveRun {
         run,
@@ -219,36 +221,36 @@ fn read_on(c: LiveRun, buffer: &mut [u8]) -> LiveRun {
 }
 
 // Answers the next line where it has ended, and reads on where it has not.
-fn turn(c: LiveRun, buffer: &mut [u8]) -> LiveRun {
+fn turn<R: Read, W: Write>(input: &mut R, to: &mut W, c: LiveRun, buffer: &mut [u8]) -> LiveRun {
     let at = c.at;
     let next = line_end(part(buffer, 0, c.end), at);
     if at < next {
-        return answer(c, part(buffer, at, next), next);
+        return answer(to, c, part(buffer, at, next), next);
     }
-    read_on(c, buffer)
+    read_on(input, to, c, buffer)
 }
 
 // Answers each line as it comes. A loop has to end: this one does so after more turns than there is time for.
-fn serve(opened: LiveRun, buffer: &mut [u8]) {
+fn serve<R: Read, W: Write>(input: &mut R, to: &mut W, opened: LiveRun, buffer: &mut [u8]) {
     let mut c = opened;
     let mut turns: u64 = 4000000000000000000;
     while 0 < turns {
         if !c.going {
             return;
         }
-        c = turn(c, &mut *buffer);
+        c = turn(input, to, c, &mut *buffer);
         turns -= 1;
     }
 }
 
 // Opens a run and answers the lines behind, in a buffer.
-fn live(buffer: &mut [u8]) {
-    let n = read_opening(&mut *buffer);
-    let opened = open(part(buffer, 0, n));
-    serve(opened, buffer);
+fn live<R: Read, W: Write>(input: &mut R, to: &mut W, buffer: &mut [u8]) {
+    let n = read_opening(input, &mut *buffer);
+    let opened = open(to, part(buffer, 0, n));
+    serve(input, to, opened, buffer);
 }
 
-fn main() {
-    let mut buffer = io::large_buffer();
-    live(&mut buffer);
+fn main(rt: HostRuntime) {
+    let mut buffer = [0u8; 65536];
+    live(&mut rt.stdin(), &mut rt.stdout(), &mut buffer);
 }

@@ -1,14 +1,16 @@
 // Derives the causal process of a run: reads a net card and a run card, prints the process or why the run is refused.
-use libc::STDIN_FILENO;
+#![tactic(auto)]
 
-fn process(s: &[u8]) {
-    let mut out = io::large_buffer();
+use std::io::Write;
+
+fn process<W: Write>(to: &mut W, s: &[u8]) {
+    let mut out = [0u8; 65536];
     let r = engine::process_cards(s, &mut out);
-    console::print_reply(r, &out);
+    let _ = console::print_reply(to, r, &out);
 }
 
-fn main() {
-    let mut input = io::large_buffer();
-    let n = io::read_full(STDIN_FILENO, &mut input);
-    process(&input[..n]);
+fn main(rt: HostRuntime) {
+    let mut input = [0u8; 65536];
+    let n = console::read_full(&mut rt.stdin(), &mut input);
+    process(&mut rt.stdout(), &input[..n]);
 }

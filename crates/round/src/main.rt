@@ -1,14 +1,16 @@
 // Rounds a run to whole ticks: reads a net card and a run card, prints the rounded run as a card or why the run is refused.
-use libc::STDIN_FILENO;
+#![tactic(auto)]
 
-fn round(s: &[u8]) {
-    let mut out = io::buffer();
+use std::io::Write;
+
+fn round<W: Write>(to: &mut W, s: &[u8]) {
+    let mut out = [0u8; 4096];
     let r = engine::round_cards(s, &mut out);
-    console::print_reply(r, &out);
+    let _ = console::print_reply(to, r, &out);
 }
 
-fn main() {
-    let mut input = io::large_buffer();
-    let n = io::read_full(STDIN_FILENO, &mut input);
-    round(&input[..n]);
+fn main(rt: HostRuntime) {
+    let mut input = [0u8; 65536];
+    let n = console::read_full(&mut rt.stdin(), &mut input);
+    round(&mut rt.stdout(), &input[..n]);
 }

@@ -1,4 +1,6 @@
 // A run entered by lines of text: what each line asks for, and what is answered.
+#![tactic(auto)]
+
 ghost use Rattle.std.specs.Prelude.{◌≡◌, ◌++◌, length, drop};
 ghost use Rattle.laws.specs.Tests.{same_numbers};
 ghost use Rattle.form.specs.Code.{number_line};

@@ -1,14 +1,16 @@
 // Finds the earliest timetable of a firing order: reads a net card and an order card, prints a run card or why there is none.
-use libc::STDIN_FILENO;
+#![tactic(auto)]
 
-fn timetable(s: &[u8]) {
-    let mut out = io::buffer();
+use std::io::Write;
+
+fn timetable<W: Write>(to: &mut W, s: &[u8]) {
+    let mut out = [0u8; 4096];
     let r = engine::timetable_cards(s, &mut out);
-    console::print_reply(r, &out);
+    let _ = console::print_reply(to, r, &out);
 }
 
-fn main() {
-    let mut input = io::large_buffer();
-    let n = io::read_full(STDIN_FILENO, &mut input);
-    timetable(&input[..n]);
+fn main(rt: HostRuntime) {
+    let mut input = [0u8; 65536];
+    let n = console::read_full(&mut rt.stdin(), &mut input);
+    timetable(&mut rt.stdout(), &input[..n]);
 }
