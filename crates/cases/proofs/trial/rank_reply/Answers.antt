@@ -7,9 +7,7 @@ use lib.Dec.{T, ltb, ltb→lt}
 use lib.IntN.{pos, negsuc}
 use mir.Syntax.{w32, w64}
 use mir.Val.{SFits, to_z, of_z, sel}
-use borrow.Author.Rules.{rules}
-use Rattle.cases.proofs.trial.rank_reply.Statement.{statement}
-use Rattle.cases.proofs.trial.rank_reply.Tie as tie
+use Rattle.cases.proofs.trial.rank_reply.Goals as goal
 
 wide : (n : ℕ) → SFits w64 (to_z w32 n)
 wide n = go (ltb n 2147483648) refl
@@ -18,11 +16,5 @@ wide n = go (ltb n 2147483648) refl
     go true e = record { sfits = omega (arith, ltb→lt n 2147483648 (subst T (sym e) tt)) }
     go false e = record { sfits = omega arith }
 
-cast-put-signed : tie.Need-overflow-cast-put-signed
-cast-put-signed c = wide (of_z w32 c.before.before.before.r2.given.0.0)
-
-pub rank_reply_spec : {M : Type 1} → statement M
-rank_reply_spec =
-    tie.close
-    (tie.spec (λ c κs. search rules) (λ c. search rules) (λ c. search rules) (λ c. search rules) cast-put-signed (λ c κs. search rules)
-    (λ c. search rules) (λ c κs. search rules) (λ c. search rules) (λ c. search rules) (λ c. search rules))
+pub overflow_cast-rank : goal.overflow_cast-rank
+overflow_cast-rank c = wide (of_z w32 c.in-Ranked.rank)

@@ -10,9 +10,7 @@ use lib.Signed.{mag, lt_z, non_neg}
 use mir.Syntax.{w64}
 use mir.Val.{Fits, SFits, to_z, of_z}
 use mir.Facts.{sfits_to_z, Fits-of_z, Fits-nat_abs, to_z-of_z}
-use borrow.Author.Rules.{rules}
-use Rattle.cases.proofs.trial.magnitude.Statement.{statement}
-use Rattle.cases.proofs.trial.magnitude.Tie as tie
+use Rattle.cases.proofs.trial.magnitude.Goals as goal
 
 below : (z : ℤ) → lt_z z (pos 0) ≡ true → negsuc 0 -ℤ z ≡ pos (mag z)
 below (pos n) e = absurd (not-suc-le-zero (ltb→lt n 0 (subst T (sym e) tt)))
@@ -43,23 +41,14 @@ module _ {z : ℤ} (f : SFits w64 z) where
   pub same : lt_z z (pos 0) ≡ false → T (non_neg z) × Fits w64 (nat_abs z)
   same e = (above z e, Fits-nat_abs tt f)
 
-sub-result : tie.Need-overflow-sub-result
-sub-result c = difference (sfits_to_z (Fits-of_z c.before.ranges.n)) c.if1.true
+pub overflow_sub-result : goal.overflow_sub-result
+overflow_sub-result c = difference (sfits_to_z (Fits-of_z c.ranges.n)) c.if-n-lt0.true
 
-cast-result : tie.Need-overflow-cast-result
-cast-result c = size (sfits_to_z (Fits-of_z c.before.ranges.n)) c.if1.true
+pub overflow_cast-result : goal.overflow_cast-result
+overflow_cast-result c = size (sfits_to_z (Fits-of_z c.ranges.n)) c.if-n-lt0.true
 
-add-result : tie.Need-overflow-add-result
-add-result c = more (sfits_to_z (Fits-of_z c.before.ranges.n)) c.if1.true
+pub overflow_add-result : goal.overflow_add-result
+overflow_add-result c = more (sfits_to_z (Fits-of_z c.ranges.n)) c.if-n-lt0.true
 
-returns : tie.Need-returns
-returns c = search rules
-
-cast-result-2 : tie.Need-overflow-cast-result-2
-cast-result-2 c = same (sfits_to_z (Fits-of_z c.before.ranges.n)) c.if1.false
-
-returns-2 : tie.Need-returns-2
-returns-2 c = search rules
-
-pub magnitude_spec : {M : Type 1} → statement M
-magnitude_spec = tie.close (tie.spec sub-result cast-result add-result returns cast-result-2 returns-2)
+pub overflow_cast-result-2 : goal.overflow_cast-result-2
+overflow_cast-result-2 c = same (sfits_to_z (Fits-of_z c.ranges.n)) c.if-n-lt0.false
