@@ -1,0 +1,9 @@
+-- Bytes move towards the front of a buffer whose length stays.
+use Rattle.std.proofs.Common.{◌-◌, ◌≤◌, length, ◌≡◌}
+use Rattle.live.proofs.move_to_front.Given as goal
+
+abbrev pub invariant-loop-from : goal.invariant-loop-from
+invariant-loop-from l = (l.to ≤ l.from) × (length l.buffer ≡ length l.initial.buffer) × (l.last ≤ length l.initial.buffer)
+
+abbrev pub decreases-loop-from : goal.decreases-loop-from
+decreases-loop-from l = l.last - l.from
