@@ -1,4 +1,6 @@
 // The operations of the engine: over values, and over the bytes of cards.
+#![tactic(auto)]
+
 mod end_text;
 mod process_text;
 

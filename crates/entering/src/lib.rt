@@ -1,4 +1,6 @@
 // Runs entered step by step, by value: opening, waits, firings, closing, and the calls for the state and the timetable.
+#![tactic(auto)]
+
 ghost use Rattle.std.specs.Prelude.{◌≡◌, suc, ◌+◌, ◌≤◌, ◌<◌};
 ghost use Rattle.reply.specs.declared.Refusal.TheVariants.{ClosedRun};
 ghost use Rattle.reply.specs.declared.Checked.TheVariants.{Refused};

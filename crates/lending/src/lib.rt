@@ -1,5 +1,7 @@
 // The record of an open run lent by its caller: a wait, a firing and the closing, each the by-value core on what the record holds. A refused step leaves it bit
 // for bit.
+#![tactic(auto)]
+
 ghost use Rattle.std.specs.Prelude.{◌≡◌};
 ghost use Rattle.reply.specs.Respond.{output_of};
 ghost use Rattle.open_run.specs.Open.{wait_of, fire_of, close_of, closing};

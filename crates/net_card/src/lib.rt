@@ -1,4 +1,6 @@
 // The net card: read, checked as a value, written.
+#![tactic(auto)]
+
 ghost use Rattle.std.specs.Prelude.{◌≡◌, true, cond, ◌++◌, ◌+◌, ◌*◌, ◌≤◌, ◌<◌, min, length, get_or, set, drop, replicate, leb};
 ghost use Rattle.laws.specs.Arrays.{filled};
 ghost use Rattle.laws.specs.Writing.{Puts};

@@ -1,5 +1,7 @@
 // Open runs over the bytes of cards: a record stands as its net card and, right behind it, the card of its run, whose rest is the sum of the waits since the
 // last firing. The lines that open a run stand right behind its net card.
+#![tactic(auto)]
+
 ghost use Rattle.std.specs.Prelude.{◌≡◌};
 ghost use Rattle.reply.specs.declared.Checked.TheVariants.{Passed};
 ghost use Rattle.reply.specs.Respond.{Responded};

@@ -1,4 +1,6 @@
 // Two runs of one order on one net ranked by their instants, over values and over the bytes of cards.
+#![tactic(auto)]
+
 ghost use Rattle.std.specs.Prelude.{◌≡◌, ◌++◌, ℕ, ◌^◌, ◌≤◌, ◌<◌, pos, ◌-ℤ◌};
 ghost use Rattle.laws.specs.Tests.{same_numbers};
 ghost use Rattle.laws.specs.Writing.{Puts};

@@ -160,4 +160,6 @@ module _ {o : Outcome} {longest last : ℕ} (b : Bounds o longest last) (l : lon
 
   -- the result of such a reply is the operation's
   pub returned : {z : ℤ} → z ≡ result_of x → Returned o out (to_z w64 (of_z w64 z)) exit
-  returned e = record { result = to_z-of_z (rw e (result_fits x reply_narrow)) ∙ e ∙ ap result_of v.reply; output = v.output }
+  returned {z} e =
+      let fits : SFits w64 z = rw e (result_fits x reply_narrow) in
+      record { result = to_z-of_z fits ∙ e ∙ ap result_of v.reply; output = v.output }

@@ -3,6 +3,8 @@
 // and writes its answer to the front of the output. The tpn_live_ functions enter a run step by step: tpn_live_open reads a net card and, behind it, the lines
 // `sheet`, `memory` and `denominator`, and the others a net card and the card of the run so far, which opening and each step answer. Every function returns how
 // many bytes its answer is, or -(number * 65536 + place) for a refusal, which leaves the output as it was.
+#![tactic(auto)]
+
 ghost use Rattle.std.specs.Prelude.{◌≡◌};
 ghost use Rattle.operations.specs.Replay.{replay_cards};
 ghost use Rattle.operations.specs.Round.{round_cards};

@@ -1,5 +1,6 @@
 -- No more lines end than bytes were looked at, and what is left of the text falls.
-use Rattle.std.proofs.Common.{length, ◌-◌, ◌≤◌}
+use Prim.Native.Nat.{◌-◌, ◌≤◌}
+use lib.ListN.{length}
 use Rattle.live.proofs.ended_lines.Given as goal
 
 abbrev pub invariant-loop-i : goal.invariant-loop-i

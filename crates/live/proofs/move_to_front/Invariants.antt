@@ -1,5 +1,7 @@
 -- Bytes move towards the front of a buffer whose length stays.
-use Rattle.std.proofs.Common.{◌-◌, ◌≤◌, length, ◌≡◌}
+use Prim.Native.Nat.{◌-◌, ◌≤◌}
+use mathlib.Core.Path.{◌≡◌}
+use lib.ListN.{length}
 use Rattle.live.proofs.move_to_front.Given as goal
 
 abbrev pub invariant-loop-from : goal.invariant-loop-from

@@ -1,8 +1,6 @@
 -- The lines are put one after another (`Putting`).
 use Prim.Native.Nat.{◌-◌}
-use mathlib.Core.Path.{refl}
-use borrow.Author.Rules.{rules}
-use Rattle.laws.specs.Writing.{joined, Putting, putting_start, putting_more, putting_done}
+use Rattle.laws.specs.Writing.{joined, Putting}
 use Rattle.engine.specs.Clocks.{clock_line}
 use Rattle.engine.proofs.end_text.put_clocks.Given as goal
 

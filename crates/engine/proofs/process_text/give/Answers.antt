@@ -1,7 +1,7 @@
 -- The weight of place after place is stored in the new producer's slot (`Giving`).
-use Prim.Native.Nat.{◌+◌, ◌-◌}
+use Prim.Native.Nat.{◌+◌}
 use native.Mathlib.Omega.{arith}
-use Rattle.engine.proofs.Giving.{Giving, giving_start, giving_more, giving_done}
+use Rattle.engine.proofs.Giving.{giving_start, giving_more, giving_done}
 use Rattle.engine.proofs.process_text.give.Goals as goal
 
 pub loop-p-init : goal.loop-p-init

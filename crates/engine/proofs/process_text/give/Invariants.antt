@@ -1,8 +1,6 @@
 -- The weight of place after place is stored in the new producer's slot (`Giving`).
-use Prim.Native.Nat.{◌+◌, ◌-◌}
-use native.Mathlib.Omega.{arith}
-use borrow.Author.Rules.{rules}
-use Rattle.engine.proofs.Giving.{Giving, giving_start, giving_more, giving_done}
+use Prim.Native.Nat.{◌-◌}
+use Rattle.engine.proofs.Giving.{Giving}
 use Rattle.engine.proofs.process_text.give.Given as goal
 
 abbrev pub invariant-loop-p : goal.invariant-loop-p

@@ -1,10 +1,6 @@
 -- The loop looks at flag after flag, and keeps what is left of the line (`Listing`).
-use Prim.Native.Nat.{◌-◌}
 use mathlib.Core.Bool.{true}
-use mathlib.Core.Logic.{⊎_elim}
-use borrow.Author.Tests.{not-true, not-false}
-use Rattle.laws.specs.Writing.{puts_then, puts_length}
-use Rattle.engine.specs.Counts.{Listing}
+use Rattle.laws.specs.Writing.{puts_then}
 use Rattle.engine.proofs.Listing.{listing_start, listing_one, line_done}
 use Rattle.engine.proofs.Flags.{numbers_from, numbers_none, number_up, number_down}
 use Rattle.engine.proofs.process_text.put_free.Goals as goal
@@ -18,13 +14,13 @@ pub loop-i-preserved : goal.loop-i-preserved
 loop-i-preserved c = let a = c.args in
     let inside = c.loop-i-test.true in
     elim c.if-not-linked-i.branch [
-    | then-not-linked-i w ↦
-      let down = number_down a.linked.now a.count c.loop-i.i inside w.if-not-linked-i.true in
-      rw (w.out-is, w.to-is, w.first-is)
-      (listing_one (rw down at c.loop-i.invariant) (puts_then w.put_comma-to.ensures w.put_number-to.ensures))
-    | else-not-linked-i w ↦
-      let up = number_up a.linked.now a.count c.loop-i.i inside w.if-not-linked-i.false in
-      rw (w.out-is, w.to-is, w.first-is) (rw up at c.loop-i.invariant)
+      | then-not-linked-i w ↦
+          let down = number_down a.linked.now a.count c.loop-i.i inside w.if-not-linked-i.true in
+          rw (w.out-is, w.to-is, w.first-is)
+          (listing_one (rw down at c.loop-i.invariant) (puts_then w.put_comma-to.ensures w.put_number-to.ensures))
+      | else-not-linked-i w ↦
+          let up = number_up a.linked.now a.count c.loop-i.i inside w.if-not-linked-i.false in
+          rw (w.out-is, w.to-is, w.first-is) (rw up at c.loop-i.invariant)
     ]
 
 pub returns : goal.returns

@@ -1,13 +1,8 @@
 -- The loop looks at flag after flag, and keeps what is left of the line (`Listing`).
 use Prim.Native.Nat.{◌-◌}
 use mathlib.Core.Bool.{true}
-use mathlib.Core.Logic.{⊎_elim}
-use borrow.Author.Rules.{rules}
-use borrow.Author.Tests.{not-true, not-false}
-use Rattle.laws.specs.Writing.{puts_then, puts_length}
 use Rattle.engine.specs.Counts.{Listing}
-use Rattle.engine.proofs.Listing.{listing_start, listing_one, line_done}
-use Rattle.engine.proofs.Flags.{numbers_from, numbers_none, number_up, number_down}
+use Rattle.engine.proofs.Flags.{numbers_from}
 use Rattle.engine.proofs.process_text.put_free.Given as goal
 
 abbrev pub invariant-loop-i : goal.invariant-loop-i

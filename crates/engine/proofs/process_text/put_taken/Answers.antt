@@ -1,10 +1,8 @@
 -- The loop keeps what was taken of the places passed, and their items (`Lining`).
-use Prim.Native.Nat.{◌-◌}
 use native.Mathlib.Omega.{arith}
-use mathlib.Core.Logic.{⊎_elim}
 use Rattle.laws.specs.Writing.{puts_length}
 use Rattle.engine.proofs.Listing.{line_done}
-use Rattle.engine.proofs.Lines.{Lining, lining_start, lining_more, lining_none, lining_took, lining_listed}
+use Rattle.engine.proofs.Lines.{lining_start, lining_more, lining_none, lining_took, lining_listed}
 use Rattle.engine.proofs.process_text.put_taken.Goals as goal
 use Rattle.engine.proofs.process_text.put_taken.Goals.{then-need-ne0, else-need-ne0}
 
@@ -19,12 +17,12 @@ pub loop-p-preserved : goal.loop-p-preserved
 loop-p-preserved c = let a = c.args in
     let inside = c.loop-p-test.true in
     elim c.if-need-ne0.branch [
-    | then-need-ne0 w ↦
-      rw (w.out-is, w.counts-is, w.heads-is, w.line-is)
-      (lining_more a.out.now a.at a.take.now a.counts.now a.turn c.loop-p.invariant inside w.take_oldest-r.ensures)
-    | else-need-ne0 w ↦
-      rw (w.out-is, w.counts-is, w.heads-is, w.line-is)
-      (lining_none a.out.now a.at a.take.now a.counts.now a.turn c.loop-p.invariant inside c.requires.short w.if-need-ne0.false)
+      | then-need-ne0 w ↦
+          rw (w.out-is, w.counts-is, w.heads-is, w.line-is)
+          (lining_more a.out.now a.at a.take.now a.counts.now a.turn c.loop-p.invariant inside w.take_oldest-r.ensures)
+      | else-need-ne0 w ↦
+          rw (w.out-is, w.counts-is, w.heads-is, w.line-is)
+          (lining_none a.out.now a.at a.take.now a.counts.now a.turn c.loop-p.invariant inside c.requires.short w.if-need-ne0.false)
     ]
 
 pub returns : goal.returns

@@ -1,11 +1,6 @@
 -- The loop keeps what was taken of the places passed, and their items (`Lining`).
 use Prim.Native.Nat.{◌-◌}
-use native.Mathlib.Omega.{arith}
-use mathlib.Core.Logic.{⊎_elim}
-use borrow.Author.Rules.{rules}
-use Rattle.laws.specs.Writing.{puts_length}
-use Rattle.engine.proofs.Listing.{line_done}
-use Rattle.engine.proofs.Lines.{Lining, lining_start, lining_more, lining_none, lining_took, lining_listed}
+use Rattle.engine.proofs.Lines.{Lining}
 use Rattle.engine.proofs.process_text.put_taken.Given as goal
 
 abbrev pub invariant-loop-p : goal.invariant-loop-p

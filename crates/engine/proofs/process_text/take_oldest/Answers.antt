@@ -1,7 +1,6 @@
 -- The loop keeps what is still to be taken, and what is left of the line (`Drawing`).
-use Prim.Native.Nat.{◌-◌}
-use mathlib.Core.Logic.{inl, inr, ⊎_elim}
-use Rattle.engine.proofs.Taking.{Drawing, drawing_start, drawing_none, drawing_some, drawing_done}
+use mathlib.Core.Logic.{inl, inr}
+use Rattle.engine.proofs.Taking.{drawing_start, drawing_none, drawing_some, drawing_done}
 use Rattle.engine.proofs.process_text.take_oldest.Goals as goal
 use Rattle.engine.proofs.process_text.take_oldest.Goals.{then-x-ne0, else-x-ne0}
 
@@ -11,14 +10,14 @@ producers-init c = drawing_start c.args.out.now c.args.line c.args.counts.now c.
 pub producers-preserved : goal.producers-preserved
 producers-preserved c = let a = c.args in
     elim c.if-x-ne0.branch [
-    | then-x-ne0 w ↦
-      rw (w.out-is, w.counts-is, w.so_far-is, w.head-is)
-      (drawing_some a.out.now a.line a.counts.now a.draw c.producers.invariant c.producers-test.true c.lower-x.result c.lower-x.ensures
-      w.if-x-ne0.true w.put_item-to.ensures)
-    | else-x-ne0 w ↦
-      rw (w.out-is, w.counts-is, w.so_far-is, w.head-is)
-      (drawing_none a.out.now a.line a.counts.now a.draw c.producers.invariant c.producers-test.true c.lower-x.result c.lower-x.ensures
-      w.if-x-ne0.false)
+      | then-x-ne0 w ↦
+          rw (w.out-is, w.counts-is, w.so_far-is, w.head-is)
+          (drawing_some a.out.now a.line a.counts.now a.draw c.producers.invariant c.producers-test.true c.lower-x.result c.lower-x.ensures
+          w.if-x-ne0.true w.put_item-to.ensures)
+      | else-x-ne0 w ↦
+          rw (w.out-is, w.counts-is, w.so_far-is, w.head-is)
+          (drawing_none a.out.now a.line a.counts.now a.draw c.producers.invariant c.producers-test.true c.lower-x.result c.lower-x.ensures
+          w.if-x-ne0.false)
     ]
 
 pub shape_of-out-after-producers : goal.shape_of-out-after-producers

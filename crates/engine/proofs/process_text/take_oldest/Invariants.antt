@@ -1,8 +1,6 @@
 -- The loop keeps what is still to be taken, and what is left of the line (`Drawing`).
 use Prim.Native.Nat.{◌-◌}
-use mathlib.Core.Logic.{inl, inr, ⊎_elim}
-use borrow.Author.Rules.{rules}
-use Rattle.engine.proofs.Taking.{Drawing, drawing_start, drawing_none, drawing_some, drawing_done}
+use Rattle.engine.proofs.Taking.{Drawing}
 use Rattle.engine.proofs.process_text.take_oldest.Given as goal
 
 abbrev pub invariant-producers : goal.invariant-producers

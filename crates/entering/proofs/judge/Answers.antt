@@ -1,0 +1,7 @@
+-- A step from the state says what the judgement there says.
+use Rattle.entering.proofs.Entered.{step_says}
+use Rattle.entering.proofs.judge.Goals as goal
+
+pub returns : goal.returns
+returns c = let a = c.args in
+    step_says a.net a.run a.st a.t c.step.ensures

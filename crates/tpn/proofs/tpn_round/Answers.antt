@@ -1,0 +1,13 @@
+-- The reply is the operation's, and its result tells it, since lengths and places are small.
+use lib.Dec.{lit<}
+use Rattle.operations.proofs.Lengths.{round_bounds}
+use Rattle.tpn.proofs.Results.{reply_narrow, returned}
+use Rattle.tpn.proofs.tpn_round.Goals as goal
+
+pub result_of-requires : goal.result_of-requires
+result_of-requires c = let s = c.args.input.now in
+    reply_narrow (round_bounds s) (lit< tt) (lit< tt) c.round_cards-r.ensures
+
+pub returns : goal.returns
+returns c = let s = c.args.input.now in
+    returned (round_bounds s) (lit< tt) (lit< tt) c.round_cards-r.ensures c.result_of.ensures
