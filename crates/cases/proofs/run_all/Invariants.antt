@@ -1,5 +1,5 @@
 -- Each turn goes on to the next line and counts at most one case and one fault, so that neither count passes the position.
-use Rattle.std.proofs.Common.{◌-◌, ◌≤◌, length}
+use Rattle.std.proofs.Common.{length, ◌-◌, ◌≤◌}
 use Rattle.cases.proofs.run_all.Given as goal
 
 abbrev pub invariant-loop-at : goal.invariant-loop-at

@@ -1,6 +1,5 @@
 -- The loop stands at or behind the position, and what is left of the text falls.
-use Prim.Native.Nat.{◌-◌, ◌≤◌}
-use lib.ListN.{length}
+use Rattle.std.proofs.Common.{length, ◌-◌, ◌≤◌}
 use Rattle.cases.proofs.lines.behind.Given as goal
 
 abbrev pub invariant-loop-i : goal.invariant-loop-i

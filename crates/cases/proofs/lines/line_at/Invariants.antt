@@ -1,10 +1,6 @@
 -- Each turn goes on behind a byte 10, or to the end, so that what is left of the text falls.
-use Prim.Native.Nat.{◌-◌}
-use lib.ListN.{length}
+use Rattle.std.proofs.Common.{length, ◌-◌}
 use Rattle.cases.proofs.lines.line_at.Given as goal
-
-abbrev pub invariant-loop-i : goal.invariant-loop-i
-invariant-loop-i l = Unit {0}
 
 abbrev pub decreases-loop-i : goal.decreases-loop-i
 decreases-loop-i l = length l.s - l.i

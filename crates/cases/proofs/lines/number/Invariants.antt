@@ -1,6 +1,5 @@
 -- The value stays below 2 to the 32; each turn reads one digit.
-use Prim.Native.Nat.{◌-◌, ◌<◌}
-use lib.ListN.{length}
+use Rattle.std.proofs.Common.{length, ◌-◌, ◌<◌}
 use Rattle.cases.proofs.lines.number.Given as goal
 
 abbrev pub invariant-loop-i : goal.invariant-loop-i

@@ -1,6 +1,5 @@
 -- Each turn goes on behind a word of the list, so that no more words than bytes are counted and what is left of the list falls.
-use Prim.Native.Nat.{◌-◌, ◌≤◌}
-use lib.ListN.{length}
+use Rattle.std.proofs.Common.{length, ◌-◌, ◌≤◌}
 use Rattle.cases.proofs.lines.word_at.Given as goal
 
 abbrev pub invariant-loop-i : goal.invariant-loop-i

@@ -1,7 +1,5 @@
 -- Each turn goes on to the next line, and the text keeps its length.
-use Prim.Native.Nat.{◌-◌}
-use mathlib.Core.Path.{◌≡◌}
-use lib.ListN.{length}
+use Rattle.std.proofs.Common.{length, ◌-◌, ◌≡◌}
 use Rattle.cases.proofs.live.put_answers.Given as goal
 
 abbrev pub invariant-loop-at : goal.invariant-loop-at

@@ -1,7 +1,5 @@
 -- Stores keep the buffer's length, and what is left of it falls.
-use mathlib.Core.Path.{◌≡◌}
-use Prim.Native.Nat.{◌-◌}
-use lib.ListN.{length}
+use Rattle.std.proofs.Common.{length, ◌-◌, ◌≡◌}
 use Rattle.cases.proofs.trial.prepared.Given as goal
 
 abbrev pub invariant-loop-i : goal.invariant-loop-i
