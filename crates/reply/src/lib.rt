@@ -95,6 +95,7 @@ pub fn respond(text: &[u8], out: &mut [u8]) -> Reply
     if out.len() < text.len() {
         return Reply::Refused(Refusal::OutputTooShort);
     }
-    out[..text.len()].copy_from_slice(text);
-    Reply::Written(text.len())
+    let n = text.len().min(out.len());
+    out[..n].copy_from_slice(&text[..n]);
+    Reply::Written(n)
 }
