@@ -177,7 +177,8 @@ fn settle<'a>(
         if from == top {
             return true;
         }
-        if from == 0 {
+        let start_rises = from == 0;
+        if start_rises {
             return false;
         }
         let risen = forward(x, origin, low, from, k);

@@ -22,8 +22,8 @@ backward-from-requires c = let p = c.requires.listed in
 pub returns-then-from-top : goal.returns-then-from-top
 returns-then-from-top c = settle_none c.loop-round.invariant c.backward-from.ensures c.if-from-top.true
 
-pub returns-then-from-eq0 : goal.returns-then-from-eq0
-returns-then-from-eq0 c = settle_started c.loop-round.invariant c.backward-from.ensures c.if-from-eq0.true
+pub returns-then-start_rises : goal.returns-then-start_rises
+returns-then-start_rises c = settle_started c.loop-round.invariant c.backward-from.ensures c.if-start_rises.true
 
 pub forward-risen-requires : goal.forward-risen-requires
 forward-risen-requires c = let p = c.requires.listed in
@@ -37,7 +37,7 @@ forward-risen-requires c = let p = c.requires.listed in
     }
 
 pub returns-then-to-eq0 : goal.returns-then-to-eq0
-returns-then-to-eq0 c = settle_done c.loop-round.invariant c.backward-from.ensures c.forward-risen.ensures.0 c.if-from-eq0.false c.if-to-eq0.true
+returns-then-to-eq0 c = settle_done c.loop-round.invariant c.backward-from.ensures c.forward-risen.ensures.0 c.if-start_rises.false c.if-to-eq0.true
 
 pub returns-then-to-k : goal.returns-then-to-k
 returns-then-to-k c = settle_above c.loop-round.invariant c.backward-from.ensures c.forward-risen.ensures.0 c.if-to-k.true
@@ -49,7 +49,7 @@ pub loop-round-preserved : goal.loop-round-preserved
 loop-round-preserved c = let l = c.loop-round in
     let e = c.forward-risen.ensures in
     rw (add-one l.round)
-    (settle_more l.invariant c.backward-from.ensures e.0 c.if-from-top.false e.1 e.2 c.if-from-eq0.false c.if-to-eq0.false c.if-to-k.false)
+    (settle_more l.invariant c.backward-from.ensures e.0 c.if-from-top.false e.1 e.2 c.if-start_rises.false c.if-to-eq0.false c.if-to-k.false)
 
 pub returns : goal.returns
 returns c = settle_spent c.loop-round.invariant c.loop-round-test.false
