@@ -1,4 +1,4 @@
--- Queues held in slots: what the slots of a place hold is its queue, and a new producer's slot is the queue's next tabled-at.
+-- Queues held in slots: what the slots of a place hold is its queue, and a new producer's slot is the queue's next entry.
 use Prim.Native.Nat.{ℕ, zero, suc, ◌+◌, ◌*◌, ◌≤◌, ◌<◌}
 use native.Mathlib.Nat.{add-zero, zero-add, add-suc, suc-add, not-suc-le-zero, eq-or-lt_of_le, le_of_suc-le-suc}
 use native.Mathlib.Numerals.{add-one}
@@ -11,7 +11,7 @@ use lib.Seq.{get_or-set_same, get_or-set_other}
 use Rattle.laws.specs.Tables.{tabled, tabled_at, tabled_same, length_tabled}
 use Rattle.engine.specs.Counts.{queue_in, Gave}
 
--- a table by its last tabled-at
+-- a table by its last entry
 tabled_last : (f : ℕ → ℕ) (i n : ℕ) → tabled f i (suc n) ≡ tabled f i n ++ (f (i + n) ∷ [])
 tabled_last f i zero = ap (λ (k : ℕ). f k ∷ []) (sym (add-zero i))
 tabled_last f i (suc n) =

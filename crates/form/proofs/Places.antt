@@ -61,7 +61,7 @@ ranged_own low high n line r e = ap position_of (sym (test_refused (leb low n &&
 pub listed_own : (transitions : ℕ) → OwnLine (listed transitions)
 listed_own transitions n line r e = ap position_of (sym (test_refused (ltb n transitions) (NoSuchTransition line) e))
 
--- a number of the line, and what is foundIf of it
+-- a number of the line, and what is found of it
 pub field_own : {A : Type 0} (judge : A → ℕ → Checked) (to : ℕ → A) → OwnLine judge → (line : ℕ) (n : NumberRead) {r : Refusal}
     → and_then (formed line n) (λ m next. found_if (judge (to m) line) (to m) next) ≡ refused r → position_of r ≡ line
 field_own judge to own line n {r} =

@@ -3,7 +3,7 @@ use Rattle.std.specs.Prelude.{ℕ, zero, suc, ◌+◌, ◌<◌, ◌≡◌, refl,
 use Rattle.std.proofs.Common.{add-zero, zero-add, add-suc, suc-add, le_of_suc-le-suc, not-suc-le-zero, ap, sym, ◌∙◌, arith, ext_get_or}
 use Rattle.std.proofs.lemmas.List.{length-map}
 
--- ---- A table that a function fills: the tabled-at at each index is the function's value there, whatever the function and the number of entries.
+-- ---- A table that a function fills: the entry at each index is the function's value there, whatever the function and the number of entries.
 
 -- n entries: of f at i, at the next number, and so on
 abbrev pub tabled : (ℕ → ℕ) → ℕ → ℕ → List ℕ
