@@ -41,7 +41,8 @@ fn respond_run(run: Run, out: &mut [u8]) -> Reply
 pub fn respond_end(net: Net, st: State, out: &mut [u8]) -> Reply
     ensures { Responded (answer (end_text net (view st))) out.old result out.new }
 {
-    if 1280 <= out.len() {
+    let fits = 1280 <= out.len();
+    if fits {
         return Reply::Written(end_text::put_end(out, net, st));
     }
     let mut text = [0u8; 1280];

@@ -169,7 +169,8 @@ fn run_from(s: &[u8], at: usize, transitions: usize, head: Heading, whole: bool)
     match n {
         NumberLine::Refused(r) => refused_run(r),
         NumberLine::Value { value, next } => {
-            if whole & (next < s.len()) {
+            let followed = next < s.len();
+            if whole & followed {
                 return refused_run(Refusal::Malformed(6 + 2 * count));
             }
             run.rest = value;

@@ -9,8 +9,8 @@ use Rattle.operations.proofs.Lengths.{end_fits}
 use Rattle.engine.proofs.Outcome.{put_answered}
 use Rattle.engine.proofs.respond_end.Goals as goal
 
-pub returns-then-out-ge1280 : goal.returns-then-out-ge1280
-returns-then-out-ge1280 c = put_answered (omega (arith, c.if-out-ge1280.true, end_fits c.args.net (view c.args.st))) c.put_end.ensures
+pub returns-then-fits : goal.returns-then-fits
+returns-then-fits c = put_answered (omega (arith, c.if-fits.true, end_fits c.args.net (view c.args.st))) c.put_end.ensures
 
 pub slice_bounds-text-end : goal.slice_bounds-text-end
 slice_bounds-text-end c =

@@ -22,11 +22,11 @@ pub loop-i-preserved : goal.loop-i-preserved
 loop-i-preserved c = let e = sym c.one_firing-f.ensures ∙ c.in-Value.is in
     (firings_more c.args.transitions c.loop-i.invariant.0 c.loop-i-test.true e, c.loop-i.invariant.1)
 
-pub returns-then-whole-next : goal.returns-then-whole-next
-returns-then-whole-next c = let a = c.args in
-    c.refused_run-then-whole-next.ensures
+pub returns-then-whole-followed : goal.returns-then-whole-followed
+returns-then-whole-followed c = let a = c.args in
+    c.refused_run-then-whole-followed.ensures
     ∙ run_followed a.transitions c.loop-i.invariant.0 a.whole a.head.sheet a.head.memory a.head.denominator c.loop-i-test.false
-    (sym c.number_line-n.ensures ∙ c.in-Value-n.is) c.if-whole-next.true
+    (sym c.number_line-n.ensures ∙ c.in-Value-n.is) c.if-whole-followed.true
 
 pub returns-in-Refused-n : goal.returns-in-Refused-n
 returns-in-Refused-n c = let a = c.args in
@@ -34,8 +34,8 @@ returns-in-Refused-n c = let a = c.args in
     ∙ rest_stopped a.transitions c.loop-i.invariant.0 a.whole a.head.sheet a.head.memory a.head.denominator c.loop-i-test.false
     (sym c.number_line-n.ensures ∙ c.in-Refused-n.is)
 
-pub returns-else-whole-next : goal.returns-else-whole-next
-returns-else-whole-next c = let a = c.args in
+pub returns-else-whole-followed : goal.returns-else-whole-followed
+returns-else-whole-followed c = let a = c.args in
     let v = c.loop-i.invariant in
     let made = c.unread_run-run.ensures in
     run_whole a.transitions v.0 a.whole a.head.sheet a.head.memory a.head.denominator c.loop-i-test.false
@@ -44,4 +44,4 @@ returns-else-whole-next c = let a = c.args in
       v.1.1 ∙ ap (λ (r : Run). r.memory) made,
       v.1.2 ∙ ap (λ (r : Run). r.denominator) made,
       v.1.3 ∙ ap (λ (r : Run). r.count) made,
-    ) c.if-whole-next.false
+    ) c.if-whole-followed.false
