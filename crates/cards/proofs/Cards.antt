@@ -4,8 +4,7 @@ use mathlib.Core.Path.{◌≡◌, ap, ◌∙◌}
 use mathlib.Core.Logic.{◌↔◌}
 use mathlib.Core.List.{List}
 use lib.ListN.{length, take}
-use Rattle.reply.specs.declared.Checked.TheVariants.{Passed}
-use Rattle.reply.specs.Respond.{answer}
+use Rattle.reply.specs.Respond.{answer, Passed}
 use Rattle.reply.proofs.Laws.{written_answer}
 use Rattle.form.specs.Form.{found, Form}
 use Rattle.form.proofs.Found.{also_first, also_second}

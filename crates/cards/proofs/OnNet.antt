@@ -1,13 +1,12 @@
 -- A card of a net, whichever its form: the net is judged first, and then the card is read, checked and written as any other.
+use Rattle.std.specs.Prelude.{Err}
 use Prim.Native.Nat.{ℕ, ◌+◌, ◌≤◌}
 use native.Mathlib.Omega.{arith}
 use mathlib.Core.Path.{◌≡◌, refl, sym, ap, subst, ◌∙◌}
 use mathlib.Core.Logic.{◌↔◌}
 use mathlib.Core.List.{List, ◌++◌}
 use lib.ListN.{length, drop, length-append}
-use Rattle.reply.specs.declared.Checked.{Checked}
-use Rattle.reply.specs.declared.Checked.TheVariants.{Passed, Refused}
-use Rattle.reply.specs.Respond.{answer, written_if}
+use Rattle.reply.specs.Respond.{answer, written_if, Checked, Passed}
 use Rattle.reply.proofs.Laws.{written_answer}
 use Rattle.form.specs.Form.{Found, found, also, Form, front, alone}
 use Rattle.form.specs.Inverse.{Format}
@@ -33,7 +32,7 @@ order_lawful net = order_format net.sheet net.transitions
 
 on_net_found : {A : Type 0} (c : Checked) (m : Found A) {a : A} {next : ℕ} → on_net c m ≡ found a next → (c ≡ Passed) × (m ≡ found a next)
 on_net_found Passed m e = (refl, e)
-on_net_found (Refused r) m e = absurd (not_both e)
+on_net_found (Err r) m e = absurd (not_both e)
 
 -- c is the check of the net
 module _ {A : Type 0} (c : Checked) (f : Form A) {P : Type 0} {reach most : ℕ} (few : c ≡ Passed → P) (w : Format P f reach most) where

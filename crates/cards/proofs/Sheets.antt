@@ -1,5 +1,7 @@
 -- The sheet of a card of a net: what passes is on the net's own; another one within the range is refused as 11 at line 1, whatever stands behind that line,
 -- and nothing else is.
+use Rattle.reply.specs.Respond.{Checked, Passed}
+use Rattle.std.specs.Prelude.{Err}
 use Prim.Native.Nat.{ℕ, ◌+◌, ◌≤◌}
 use native.Mathlib.Decide.{dec_le}
 use native.Mathlib.Omega.{arith}
@@ -11,7 +13,6 @@ use lib.ListN.{length, drop}
 use lib.Dec.{leb}
 use Rattle.reply.specs.declared.Refusal.{Refusal}
 use Rattle.reply.specs.declared.Refusal.TheVariants.{Malformed, AnotherSheet}
-use Rattle.reply.specs.declared.Checked.TheVariants.{Passed, Refused}
 use Rattle.reply.specs.Refusal.{number_of, position_of}
 use Rattle.form.specs.Form.{Found, found, refused, also, Form, front, alone, follow}
 use Rattle.form.specs.Sheet.{sheet_checked, sheet, on_sheet}
@@ -45,10 +46,10 @@ module _ (net : Net) where
   order_own_sheet o p = (order_in_ranges net.sheet net.transitions o (also_second (net_card.check net 1) _ p)).own
 
   module _ (p : net_card.check net 1 ≡ Passed) where
-    pub run_wrong_sheet : (r : Run) → r.sheet ≤ 9999 → (r.sheet ≡ net.sheet → ⊥) → run_checked net r ≡ Refused (AnotherSheet 1)
+    pub run_wrong_sheet : (r : Run) → r.sheet ≤ 9999 → (r.sheet ≡ net.sheet → ⊥) → run_checked net r ≡ Err (AnotherSheet 1)
     run_wrong_sheet r small other = rw (p, another_sheet net.sheet r.sheet 1 small other) refl
 
-    pub order_wrong_sheet : (o : Order) → o.sheet ≤ 9999 → (o.sheet ≡ net.sheet → ⊥) → order_checked net o ≡ Refused (AnotherSheet 1)
+    pub order_wrong_sheet : (o : Order) → o.sheet ≤ 9999 → (o.sheet ≡ net.sheet → ⊥) → order_checked net o ≡ Err (AnotherSheet 1)
     order_wrong_sheet o small other = rw (p, another_sheet net.sheet o.sheet 1 small other) refl
 
   -- ---- bytes
@@ -82,7 +83,7 @@ module _ (net : Net) where
         (row_behind inverse (λ _. alone (card_of run_card net)) x line q (rw run_at_once refl))
 
 -- ---- 11 at line 1 is told of nothing else
-checked_same : {r q : Refusal} → Refused r ≡ Refused q → r ≡ q
+checked_same : {r q : Refusal} → ◌≡◌ {A = Checked} (Err r) (Err q) → r ≡ q
 checked_same e = cc
 
 alone_another : {A : Type 0} (f : Form A) (s : List ℕ) → alone f s ≡ refused (AnotherSheet 1) → front f s ≡ refused (AnotherSheet 1)
@@ -111,26 +112,26 @@ module _ (net : Net) (few : net.transitions ≤ 32) where
       (ahead (order_lines net.transitions) ((order_lines_format net.transitions).placed few) s) (λ v next p e. absurd (not_both (sym e)))
 
   -- the same of values
-  module _ {A : Type 0} (f : Form A) (later : (a : A) (r : Refusal) → f.check a 2 ≡ Refused r → 2 ≤ position_of r) where
-    judged_ahead : (n : ℕ) (a : A) → also (sheet_checked net.sheet n 1) (f.check a 2) ≡ Refused (AnotherSheet 1) → (n ≤ 9999) × (n ≡ net.sheet → ⊥)
+  module _ {A : Type 0} (f : Form A) (later : (a : A) (r : Refusal) → f.check a 2 ≡ Err r → 2 ≤ position_of r) where
+    judged_ahead : (n : ℕ) (a : A) → also (sheet_checked net.sheet n 1) (f.check a 2) ≡ Err (AnotherSheet 1) → (n ≤ 9999) × (n ≡ net.sheet → ⊥)
     judged_ahead n a e = go (dec_le n 9999)
       where
         go : Dec (n ≤ 9999) → (n ≤ 9999) × (n ≡ net.sheet → ⊥)
         go (no far) = absurd (omega (arith, ap number_of (checked_same (rw (far_sheet net.sheet n 1 (omega arith)) at e))))
         go (yes h) = (h, λ own. let p : 2 ≤ 1 = later a (AnotherSheet 1) (rw (own_sheet net.sheet n 1 h own) at e) in omega arith)
 
-  pub run_judged : (r : Run) → (card_of run_card net).check r 1 ≡ Refused (AnotherSheet 1) → (r.sheet ≤ 9999) × (r.sheet ≡ net.sheet → ⊥)
+  pub run_judged : (r : Run) → (card_of run_card net).check r 1 ≡ Err (AnotherSheet 1) → (r.sheet ≤ 9999) × (r.sheet ≡ net.sheet → ⊥)
   run_judged r =
       judged_ahead (run_lines net.transitions)
       (λ v q. told_placed (run_lines_told net.transitions few) ((run_lines_format net.transitions).placed few) v 2) r.sheet (from_run r).1
 
-  pub order_judged : (o : Order) → (card_of order_card net).check o 1 ≡ Refused (AnotherSheet 1) → (o.sheet ≤ 9999) × (o.sheet ≡ net.sheet → ⊥)
+  pub order_judged : (o : Order) → (card_of order_card net).check o 1 ≡ Err (AnotherSheet 1) → (o.sheet ≤ 9999) × (o.sheet ≡ net.sheet → ⊥)
   order_judged o =
       judged_ahead (order_lines net.transitions)
       (λ v q. told_placed (order_lines_told net.transitions few) ((order_lines_format net.transitions).placed few) v 2) o.sheet (from_order o).1
 
 -- a net itself is never refused so
-pub net_judged : (net : Net) → net_card.check net 1 ≡ Refused (AnotherSheet 1) → ⊥
+pub net_judged : (net : Net) → net_card.check net 1 ≡ Err (AnotherSheet 1) → ⊥
 net_judged net e =
     let t = net_card.text (writable_net net) in
     net_own_sheet t (net_told.told net t [] 0 1 (sym (append-nil t)) ∙ rw e refl)

@@ -1,10 +1,10 @@
 -- A net card and the cards of two runs behind it: how much of an input a reading looks at, both round trips, and values told as their cards.
+use Rattle.reply.specs.Respond.{Passed}
 use Prim.Native.Nat.{ℕ, ◌+◌, ◌<◌}
 use native.Mathlib.Omega.{arith}
 use mathlib.Core.Path.{◌≡◌, refl, sym, ap, ◌∙◌}
 use mathlib.Core.List.{List, ◌++◌}
 use lib.ListN.{length, take, drop, length-append}
-use Rattle.reply.specs.declared.Checked.TheVariants.{Passed}
 use Rattle.form.specs.Form.{found, found_if, also, front, alone, follow}
 use Rattle.form.proofs.Found.{also_first, also_second, judged_same}
 use Rattle.form.proofs.Card.{alone_written_again}

@@ -1,11 +1,11 @@
 -- A net and a run or an order of it, handed over as values, are checked as the input of their cards is read.
+use Rattle.reply.specs.Respond.{Passed}
 use Prim.Native.Nat.{ℕ, ◌≤◌}
 use native.Mathlib.Nat.{min-eq_left}
 use native.Mathlib.Omega.{arith}
 use mathlib.Core.Path.{◌≡◌, refl, sym, ap, ◌∙◌}
 use mathlib.Core.List.{List, ◌++◌}
 use lib.ListN.{length, length-append}
-use Rattle.reply.specs.declared.Checked.TheVariants.{Passed}
 use Rattle.form.specs.Form.{found, found_if, also, Form, alone}
 use Rattle.form.specs.Line.{writable}
 use Rattle.form.specs.Inverse.{Told}

@@ -1,8 +1,6 @@
 -- The operations on cards of a net: what each finds, by the forms of the cards.
-use Rattle.std.specs.Prelude.{ℕ, List, ◌++◌}
-use Rattle.reply.specs.declared.Checked.{Checked}
-use Rattle.reply.specs.declared.Checked.TheVariants.{Passed, Refused}
-use Rattle.reply.specs.Respond.{Outcome, written_if}
+use Rattle.std.specs.Prelude.{ℕ, List, ◌++◌, Err}
+use Rattle.reply.specs.Respond.{Outcome, written_if, Checked, Passed}
 use Rattle.form.specs.Form.{Found, refused, also, Form, front, alone, follow}
 use Rattle.net.specs.declared.Net.{Net}
 use Rattle.net.specs.Net.{net_card}
@@ -13,7 +11,7 @@ use Rattle.run.specs.Run.{run_card, order_card}
 -- what is read only of a net that passes its check: the net first
 abbrev pub on_net : {A : Type 0} → Checked → Found A → Found A
 on_net Passed f = f
-on_net (Refused r) f = refused r
+on_net (Err r) f = refused r
 
 -- a card of a net: on its sheet, with so many transitions
 abbrev pub card_of : {A : Type 0} → (ℕ → ℕ → Form A) → Net → Form A

@@ -1,6 +1,6 @@
 -- Document 02, Q-3: what a run or order on another sheet is, over bytes.
+use Rattle.reply.specs.Respond.{Passed}
 use Rattle.std.specs.Prelude.{ℕ, ◌≤◌, ◌≡◌, List, ◌++◌}
-use Rattle.reply.specs.declared.Checked.TheVariants.{Passed}
 use Rattle.form.specs.Sheet.{sheet}
 use Rattle.net.specs.declared.Net.{Net}
 use Rattle.net.specs.Net.{net_card}

@@ -1,47 +1,52 @@
 // Changes to a net, a run or an order that was read: lines `key.index=number` for one slot each.
 use super::lines;
 use super::parts::Operation;
-use form::LineRead;
-use net::{Latest, Net, Transition};
+use net::Net;
 use reply::Refusal;
-use run::{Firing, Order, Run};
+use run::{Order, Run};
 
-// The keys, by their places in the list of `change_at`: nine of a net, three of a run or an order, three of a run alone. `sheet` is the net's,
-// `cardsheet` that of the run or order.
-const SHEET: usize = 0;
+// The keys: nine of a net, three of a run or an order, three of a run alone. `Sheet` is the net's, `CardSheet` that of the run or order.
+#[derive(Clone, Copy, PartialEq, Eq)]
+enum Key {
+    Sheet,
+    Places,
+    Transitions,
+    Start,
+    Earliest,
+    Latest,
+    Unbounded,
+    Take,
+    Give,
+    CardSheet,
+    Firings,
+    Fire,
+    Denominator,
+    Wait,
+    Rest,
+}
 
-const PLACES: usize = 1;
+const KEYS: [(&[u8], Key); 15] = [
+    (b"sheet=", Key::Sheet),
+    (b"places=", Key::Places),
+    (b"transitions=", Key::Transitions),
+    (b"start.", Key::Start),
+    (b"earliest.", Key::Earliest),
+    (b"latest.", Key::Latest),
+    (b"unbounded.", Key::Unbounded),
+    (b"take.", Key::Take),
+    (b"give.", Key::Give),
+    (b"cardsheet=", Key::CardSheet),
+    (b"firings=", Key::Firings),
+    (b"fire.", Key::Fire),
+    (b"denominator=", Key::Denominator),
+    (b"wait.", Key::Wait),
+    (b"rest=", Key::Rest),
+];
 
-const TRANSITIONS: usize = 2;
-
-const START: usize = 3;
-
-const EARLIEST: usize = 4;
-
-const LATEST: usize = 5;
-
-const UNBOUNDED: usize = 6;
-
-const TAKE: usize = 7;
-
-const GIVE: usize = 8;
-
-const CARD_SHEET: usize = 9;
-
-const FIRINGS: usize = 10;
-
-const FIRE: usize = 11;
-
-const DENOMINATOR: usize = 12;
-
-const WAIT: usize = 13;
-
-const REST: usize = 14;
-
-// What a case reads, and how far: a net, a run and an order of it, and another run, to rank the first with, which no line changes.
+// What a case reads, and whether its cards are refused: a net, a run and an order of it, and another run, to rank the first with, which no line changes.
 #[derive(Clone, Copy)]
 pub struct Values {
-    pub read: LineRead,
+    pub read: Result<(), Refusal>,
     pub net: Net,
     pub run: Run,
     pub order: Order,
@@ -51,189 +56,105 @@ pub struct Values {
 // A change: its key, up to two indices, and the number put there.
 #[derive(Clone, Copy)]
 struct Change {
-    key: usize,
+    key: Key,
     first: usize,
     second: usize,
     value: u32,
 }
 
-// The change that the line at a position makes.
-fn change_at(s: &[u8], at: usize) -> Change {
-    let line = lines::part(s, at, lines::behind(s, at, 10));
-    let first = lines::behind(line, 0, 46);
-    let second = lines::behind(line, first, 46);
-    Change {
-        key: lines::word_at(
-            line,
-            0,
-            b"sheet=;places=;transitions=;start.;earliest.;latest.;unbounded.;take.;give.;\
-            cardsheet=;firings=;fire.;denominator=;wait.;rest=;",
-        ),
+// The change that a line makes, where it begins with a key.
+fn change_of(line: &[u8]) -> Option<Change> {
+    let key = lines::named(line, &KEYS)?;
+    let first = lines::behind(line, 0, b'.');
+    let second = lines::behind(line, first, b'.');
+    Some(Change {
+        key,
         first: lines::number(line, first) as usize,
         second: lines::number(line, second) as usize,
-        value: lines::number(line, lines::behind(line, 0, 61)),
-    }
+        value: lines::number(line, lines::behind(line, 0, b'=')),
+    })
 }
 
-// How many of the keys the values of an operation have.
-fn keys_of(operation: Operation) -> usize {
-    match operation {
-        Operation::NetValue
-        | Operation::JoinValue
-        | Operation::JoinOther
-        | Operation::ReadRun
-        | Operation::ReadOrder => 9,
-        Operation::Order | Operation::TimetableValue => 12,
-        _ => 15,
+// Whether the values of an operation have a key.
+fn has_key(operation: Operation, key: Key) -> bool {
+    match key {
+        Key::CardSheet | Key::Firings | Key::Fire => !operation.reads_net_alone(),
+        Key::Denominator | Key::Wait | Key::Rest => {
+            !operation.reads_net_alone() && !operation.reads_order()
+        }
+        _ => true,
     }
 }
 
 // Whether a change's indices stand in the arrays that it names, and its number fits the slot. Those that make it take both modulo the lengths.
 fn in_arrays(c: Change) -> bool {
-    let key = c.key;
-    match key {
-        START => (c.first < 16) & (c.value < 256),
-        TAKE | GIVE => (c.first < 32) & (c.second < 16) & (c.value < 256),
-        EARLIEST | LATEST | UNBOUNDED => c.first < 32,
+    match c.key {
+        Key::Start => c.first < 16 && c.value < 256,
+        Key::Take | Key::Give => c.first < 32 && c.second < 16 && c.value < 256,
+        Key::Earliest | Key::Latest | Key::Unbounded => c.first < 32,
         _ => c.first < 64,
     }
 }
 
-// A transition with a change made.
-fn change_transition(t: Transition, c: Change) -> Transition {
-    let key = c.key;
-    let latest = t.latest;
-    match key {
-        EARLIEST => Transition {
-            earliest: c.value,
-            latest,
-        },
-        LATEST => Transition {
-            earliest: t.earliest,
-            latest: Latest::Ticks(c.value),
-        },
-        UNBOUNDED => Transition {
-            earliest: t.earliest,
-            latest: Latest::Unbounded,
-        },
-        _ => t,
-    }
-}
-
-// A net with a change made.
-fn change_net(net: Net, c: Change) -> Net {
-    let mut n = net;
+// Makes a change to a net.
+fn change_net(n: &mut Net, c: Change) {
     let transition = c.first % 32;
     let place = c.second % 16;
     let tokens = (c.value % 256) as u8;
-    let key = c.key;
-    match key {
-        SHEET => {
-            n.sheet = c.value;
-        }
-        PLACES => {
-            n.places = c.value as usize;
-        }
-        TRANSITIONS => {
-            n.transitions = c.value as usize;
-        }
-        START => {
-            n.start[c.first % 16] = tokens;
-        }
-        TAKE => {
-            n.take[32 * place + transition] = tokens;
-        }
-        GIVE => {
-            n.give[16 * transition + place] = tokens;
-        }
-        _ => {
-            let t = n.table[transition];
-            n.table[transition] = change_transition(t, c);
-        }
-    }
-    n
-}
-
-// A run with a change made.
-fn change_run(run: Run, c: Change) -> Run {
-    let mut r = run;
-    let i = c.first % 64;
-    let f = r.firings[i];
-    let key = c.key;
-    match key {
-        CARD_SHEET => {
-            r.sheet = c.value;
-        }
-        FIRINGS => {
-            r.count = c.value as usize;
-        }
-        FIRE => {
-            r.firings[i] = Firing {
-                wait: f.wait,
-                fire: c.value,
-            };
-        }
-        DENOMINATOR => {
-            r.denominator = c.value;
-        }
-        WAIT => {
-            r.firings[i] = Firing {
-                wait: c.value,
-                fire: f.fire,
-            };
-        }
-        REST => {
-            r.rest = c.value;
-        }
+    match c.key {
+        Key::Sheet => n.sheet = c.value,
+        Key::Places => n.places = c.value as usize,
+        Key::Transitions => n.transitions = c.value as usize,
+        Key::Start => n.start[c.first % 16] = tokens,
+        Key::Earliest => n.table[transition].earliest = c.value,
+        Key::Latest => n.table[transition].latest = Some(c.value),
+        Key::Unbounded => n.table[transition].latest = None,
+        Key::Take => n.take[32 * place + transition] = tokens,
+        Key::Give => n.give[16 * transition + place] = tokens,
         _ => {}
     }
-    r
 }
 
-// An order with a change made.
-fn change_order(order: Order, c: Change) -> Order {
-    let mut r = order;
+// Makes a change to a run.
+fn change_run(r: &mut Run, c: Change) {
     let i = c.first % 64;
-    let key = c.key;
-    match key {
-        CARD_SHEET => {
-            r.sheet = c.value;
-        }
-        FIRINGS => {
-            r.count = c.value as usize;
-        }
-        FIRE => {
-            r.fires[i] = c.value;
-        }
+    match c.key {
+        Key::CardSheet => r.sheet = c.value,
+        Key::Firings => r.count = c.value as usize,
+        Key::Fire => r.firings[i].fire = c.value,
+        Key::Denominator => r.denominator = c.value,
+        Key::Wait => r.firings[i].wait = c.value,
+        Key::Rest => r.rest = c.value,
         _ => {}
     }
-    r
+}
+
+// Makes a change to an order.
+fn change_order(r: &mut Order, c: Change) {
+    match c.key {
+        Key::CardSheet => r.sheet = c.value,
+        Key::Firings => r.count = c.value as usize,
+        Key::Fire => r.fires[c.first % 64] = c.value,
+        _ => {}
+    }
 }
 
 // The values of an operation with the changes made that the lines name; 1 at 0, as no card is refused, where one cannot be made.
 pub(crate) fn changed(values: Values, operation: Operation, s: &[u8]) -> Values {
-    let mut net = values.net;
-    let mut run = values.run;
-    let mut order = values.order;
-    let mut read = values.read;
-    let other = values.other;
-    let keys = keys_of(operation);
+    let mut v = values;
     let mut at: usize = 0;
+    // The next position is the one behind the line that was read.
     while at < s.len() {
-        let c = change_at(s, at);
-        if (keys <= c.key) | !in_arrays(c) {
-            read = LineRead::Stopped(Refusal::Malformed(0));
+        let next = lines::behind(s, at, b'\n');
+        match change_of(lines::part(s, at, next)) {
+            Some(c) if has_key(operation, c.key) && in_arrays(c) => {
+                change_net(&mut v.net, c);
+                change_run(&mut v.run, c);
+                change_order(&mut v.order, c);
+            }
+            _ => v.read = Err(Refusal::Malformed(0)),
         }
-        net = change_net(net, c);
-        run = change_run(run, c);
-        order = change_order(order, c);
-        at = lines::behind(s, at, 10);
+        at = next;
     }
-    Values {
-        read,
-        net,
-        run,
-        order,
-        other,
-    }
+    v
 }

@@ -1,15 +1,13 @@
 // The text of a file of cases: its lines and parts, the bytes that a part stands for, its words and its numbers.
-ghost use Rattle.std.specs.Prelude.{◌+◌, ◌≤◌, min, length};
+ghost use Rattle.text.specs.Key.{begins_with};
+ghost use Rattle.std.specs.Prelude.{Any, ◌≡◌, true, ◌+◌, ◌≤◌, ◌<◌, min, length, IfSome};
 
-// The part of a text between two positions; an empty one where they do not stand in the text, the first before the second.
+use text::Writer;
+
+// The part of a text between two positions; an empty one where they do not stand in the text, the first before the second. The program `live` has the same
+// line: it is one call of the library, and no crate below both has a public function for it.
 pub(crate) fn part(s: &[u8], from: usize, to: usize) -> &[u8] {
-    if to < from {
-        return &s[0..0];
-    }
-    if s.len() < to {
-        return &s[0..0];
-    }
-    &s[from..to]
+    s.get(from..to).unwrap_or(&[])
 }
 
 // The front of a buffer.
@@ -19,126 +17,114 @@ pub(crate) fn front(buffer: &[u8; 16384], n: usize) -> &[u8] {
 
 // The position behind the first such byte from a position on, or the text's end.
 pub(crate) fn behind(s: &[u8], at: usize, b: u8) -> usize
-    ensures { min (at + 1) (length s.now) ≤ result }
+    ensures { (min (at + 1) (length s.now) ≤ result) × (result ≤ length s.now) }
 {
-    let mut i = at;
-    while i < s.len() {
+    for i in at..s.len() {
         if s[i] == b {
             return i + 1;
         }
-        i += 1;
     }
-    i
+    s.len()
 }
 
 // The part of a text between the line at a position and another position.
 pub(crate) fn between(s: &[u8], line: usize, to: usize) -> &[u8] {
-    part(s, behind(s, line, 10), to)
+    part(s, behind(s, line, b'\n'), to)
 }
 
 // Where the given line stands from the line at a position on, or the text's end.
 pub(crate) fn line_at(s: &[u8], from: usize, line: &[u8]) -> usize {
     let mut i = from;
+    // The next position is the one behind the line that was compared.
     while i < s.len() {
         if text::begins_at(s, i, line) {
             return i;
         }
-        i = behind(s, i, 10);
+        i = behind(s, i, b'\n');
     }
     i
 }
 
-// How many words of a list stand before the one that the text has at a position; in the list a semicolon stands behind each.
-pub(crate) fn word_at(s: &[u8], at: usize, words: &[u8]) -> usize {
-    let mut n: usize = 0;
-    let mut i: usize = 0;
-    while i < words.len() {
-        let next = behind(words, i, 59);
-        if text::begins_at(s, at, part(words, i, next - 1)) {
-            return n;
+// What a table has beside the first of its words that a text begins with. With `find` it proves too, but this contract stays open at the return.
+pub(crate) fn named<T: Copy>(s: &[u8], table: &[(&[u8], T)]) -> Option<T>
+    ensures { IfSome result (λ m. Any (λ e. (begins_with e.0.now s.now ≡ true) × (e.1 ≡ m)) table.now) }
+{
+    for (word, meaning) in table {
+        if text::begins_at(s, 0, word) {
+            return Some(*meaning);
         }
-        n += 1;
-        i = next;
     }
-    n
+    None
 }
 
-// The value of a hexadecimal digit; 512 where it is none.
-fn hex_digit(b: u8) -> u32
-    ensures { result ≤ 512 }
+// The value of a hexadecimal digit.
+fn hex_digit(b: u8) -> Option<u8>
+    ensures { IfSome result (λ d. d < 16) }
 {
     match b {
-        48..=57 => b as u32 - 48,
-        97..=102 => b as u32 - 87,
-        _ => 512,
+        b'0'..=b'9' => Some(b - b'0'),
+        b'a'..=b'f' => Some(b - b'a' + 10),
+        _ => None,
     }
 }
 
 // The decimal number at a position, modulo 2 to the 32; 0 where there is none.
 pub(crate) fn number(s: &[u8], at: usize) -> u32 {
-    let mut v: u64 = 0;
-    let mut i = at;
-    while i < s.len() {
-        let d = hex_digit(s[i]);
-        if 9 < d {
-            return v as u32;
-        }
-        v = (v * 10 + d as u64) % 4294967296;
-        i += 1;
+    let mut v: u32 = 0;
+    for b in part(s, at, s.len()) {
+        let b'0'..=b'9' = *b else {
+            return v;
+        };
+        v = v.wrapping_mul(10).wrapping_add((*b - b'0') as u32);
     }
-    v as u32
+    v
 }
 
-// Stores the numbers of a list from a position on, with a comma between two; how many, or one more than there is room for where they are too many.
-pub(crate) fn numbers(s: &[u8], from: usize, list: &mut [u32; 64]) -> usize {
-    let mut n: usize = 0;
+// Stores the numbers of a list from a position on, with a comma between two; how many, where there is room for them.
+pub(crate) fn numbers(s: &[u8], from: usize, list: &mut [u32; 64]) -> Option<usize>
+    ensures { IfSome result (λ n. n ≤ 64) }
+{
     let mut at = from;
-    while at < s.len() {
-        if 64 <= n {
-            return 65;
+    for (i, place) in list.iter_mut().enumerate() {
+        if s.len() <= at {
+            return Some(i);
         }
-        list[n] = number(s, at);
-        n += 1;
-        at = behind(s, at, 44);
+        *place = number(s, at);
+        at = behind(s, at, b',');
     }
-    n
+    (s.len() <= at).then_some(64)
 }
 
-// What a byte makes of what was read so far of an escape: 0 where that is nothing, 1 a backslash, and from 16 to 31 a digit too. From 256 to
-// 511 a byte is read, and above that the escape is wrong.
-fn read_byte(escape: u32, b: u8) -> u32 {
-    if escape == 0 {
-        if b == 92 {
-            return 1;
-        }
-        return 256 + b as u32;
-    }
-    if b == 10 {
-        return 0;
-    }
-    escape % 32 * 16 + hex_digit(b)
+// What was read so far of an escape: nothing, a backslash, or its first digit too.
+#[derive(Clone, Copy)]
+enum Escape {
+    Outside,
+    Backslash,
+    Digit(u8),
 }
 
-// Writes the bytes that a part of a case stands for; how many, or one more than there is room for where it cannot be read. A backslash takes away
-// the line's end behind it, and with two digits behind it stands for their byte.
-pub(crate) fn decode(s: &[u8], out: &mut [u8; 16384]) -> usize {
-    let mut n: usize = 0;
-    let mut escape: u32 = 0;
-    let mut i: usize = 0;
-    while i < s.len() {
-        escape = read_byte(escape, s[i]);
-        if 256 <= escape {
-            if 16384 <= n {
-                return 16385;
-            }
-            if 512 <= escape {
-                return 16385;
-            }
-            out[n] = (escape % 256) as u8;
-            n += 1;
-            escape = 0;
-        }
-        i += 1;
+// What a byte makes of that, and the byte that is read where it ends one; nothing where the escape is wrong.
+fn read_byte(escape: Escape, b: u8) -> Option<(Escape, Option<u8>)> {
+    match (escape, b) {
+        (Escape::Outside, b'\\') => Some((Escape::Backslash, None)),
+        (Escape::Outside, _) => Some((Escape::Outside, Some(b))),
+        (_, b'\n') => Some((Escape::Outside, None)),
+        (Escape::Backslash, _) => Some((Escape::Digit(hex_digit(b)?), None)),
+        (Escape::Digit(high), _) => Some((Escape::Outside, Some(high % 16 * 16 + hex_digit(b)?))),
     }
-    n
+}
+
+// Writes the bytes that a part of a case stands for; how many, where it can be read and there is room. A backslash takes away the line's end behind it,
+// and with two digits behind it stands for their byte.
+pub(crate) fn decode(s: &[u8], out: &mut [u8; 16384]) -> Option<usize> {
+    let mut w = Writer::new(out);
+    let mut escape = Escape::Outside;
+    for b in s {
+        let (next, byte) = read_byte(escape, *b)?;
+        escape = next;
+        if let Some(b) = byte {
+            w.put_byte(b);
+        }
+    }
+    (w.at <= 16384).then_some(w.at)
 }

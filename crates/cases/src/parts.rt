@@ -15,7 +15,9 @@ pub enum Operation {
     Net,
     NetValue,
     Run,
+    RunValue,
     Order,
+    OrderValue,
     ReplayValue,
     RoundValue,
     TimetableValue,
@@ -27,59 +29,100 @@ pub enum Operation {
     ReadOrder,
     OpenValue,
     LiveValue,
-    Unknown,
 }
 
-// A case: its operation, the length of the output lent, and the positions of its second line and of the lines `with`, `card`, `expect` and `end`.
+const OPERATIONS: [(&[u8], Operation); 24] = [
+    (b"replay ", Operation::Replay),
+    (b"round ", Operation::Round),
+    (b"timetable ", Operation::Timetable),
+    (b"process ", Operation::Process),
+    (b"rank ", Operation::Rank),
+    (b"join ", Operation::Join),
+    (b"open ", Operation::Open),
+    (b"net ", Operation::Net),
+    (b"run ", Operation::Run),
+    (b"order ", Operation::Order),
+    (b"netvalue ", Operation::NetValue),
+    (b"runvalue ", Operation::RunValue),
+    (b"ordervalue ", Operation::OrderValue),
+    (b"replayvalue ", Operation::ReplayValue),
+    (b"roundvalue ", Operation::RoundValue),
+    (b"timetablevalue ", Operation::TimetableValue),
+    (b"processvalue ", Operation::ProcessValue),
+    (b"rankvalue ", Operation::RankValue),
+    (b"joinvalue ", Operation::JoinValue),
+    (b"joinother ", Operation::JoinOther),
+    (b"readrun ", Operation::ReadRun),
+    (b"readorder ", Operation::ReadOrder),
+    (b"openvalue ", Operation::OpenValue),
+    (b"livevalue ", Operation::LiveValue),
+];
+
+impl Operation {
+    // Whether the case has a line `with` and changes.
+    fn has_changes(self) -> bool {
+        !matches!(
+            self,
+            Operation::Replay
+                | Operation::Round
+                | Operation::Timetable
+                | Operation::Process
+                | Operation::Rank
+                | Operation::Join
+                | Operation::Open
+                | Operation::Net
+                | Operation::Run
+                | Operation::Order
+        )
+    }
+
+    // Whether the case has a line `card` and one card more, or the lines of an open run.
+    fn has_card(self) -> bool {
+        matches!(
+            self,
+            Operation::RankValue
+                | Operation::JoinValue
+                | Operation::JoinOther
+                | Operation::ReadRun
+                | Operation::ReadOrder
+                | Operation::OpenValue
+                | Operation::LiveValue
+        )
+    }
+
+    // Whether it reads a net card first, and neither a run nor an order behind it.
+    pub(crate) fn reads_net_alone(self) -> bool {
+        matches!(
+            self,
+            Operation::Net
+                | Operation::NetValue
+                | Operation::JoinValue
+                | Operation::JoinOther
+                | Operation::ReadRun
+                | Operation::ReadOrder
+        )
+    }
+
+    // Whether it reads an order behind a net card.
+    pub(crate) fn reads_order(self) -> bool {
+        matches!(
+            self,
+            Operation::Order | Operation::OrderValue | Operation::TimetableValue
+        )
+    }
+}
+
+// A case: its operation, where it names one, the length of the output lent, and the positions of its second line and of the lines `with`, `card`, `expect`
+// and `end`.
 #[derive(Clone, Copy)]
 pub struct Case {
-    pub operation: Operation,
+    pub operation: Option<Operation>,
     pub size: usize,
     pub at: usize,
     pub with: usize,
     pub card: usize,
     pub expect: usize,
     pub end: usize,
-}
-
-// The number of the operation that the line at a position names: below 10 it has no changes, from 17 on it has a card.
-fn operation_at(s: &[u8], at: usize) -> usize {
-    lines::word_at(
-        s,
-        at,
-        b"replay ;round ;timetable ;process ;rank ;join ;open ;net ;run ;order ;\
-        netvalue ;runvalue ;ordervalue ;replayvalue ;roundvalue ;timetablevalue ;processvalue ;\
-        rankvalue ;joinvalue ;joinother ;readrun ;readorder ;openvalue ;livevalue ;",
-    )
-}
-
-// The operation with a number.
-fn operation_of(number: usize) -> Operation {
-    match number {
-        0 => Operation::Replay,
-        1 => Operation::Round,
-        2 => Operation::Timetable,
-        3 => Operation::Process,
-        4 => Operation::Rank,
-        5 => Operation::Join,
-        6 => Operation::Open,
-        7 => Operation::Net,
-        8 | 11 => Operation::Run,
-        9 | 12 => Operation::Order,
-        10 => Operation::NetValue,
-        13 => Operation::ReplayValue,
-        14 => Operation::RoundValue,
-        15 => Operation::TimetableValue,
-        16 => Operation::ProcessValue,
-        17 => Operation::RankValue,
-        18 => Operation::JoinValue,
-        19 => Operation::JoinOther,
-        20 => Operation::ReadRun,
-        21 => Operation::ReadOrder,
-        22 => Operation::OpenValue,
-        23 => Operation::LiveValue,
-        _ => Operation::Unknown,
-    }
 }
 
 // Where the line stands before an end, or that end where it is not wanted or not there.
@@ -92,15 +135,17 @@ fn line_before(s: &[u8], from: usize, line: &[u8], wanted: bool, end: usize) -> 
 
 // The case whose second line stands at a position.
 pub(crate) fn case_at(s: &[u8], at: usize) -> Case {
-    let number = operation_at(s, at);
+    let operation = lines::named(lines::part(s, at, s.len()), &OPERATIONS);
     let expect = lines::line_at(s, at, b"expect\n");
-    let with = line_before(s, at, b"with\n", 10 <= number, expect);
+    let changes = operation.is_some_and(|o| o.has_changes());
+    let with = line_before(s, at, b"with\n", changes, expect);
+    let card = operation.is_some_and(|o| o.has_card());
     Case {
-        operation: operation_of(number),
-        size: lines::number(s, lines::behind(s, at, 32)) as usize,
+        operation,
+        size: lines::number(s, lines::behind(s, at, b' ')) as usize,
         at,
         with,
-        card: line_before(s, with, b"card\n", 17 <= number, expect),
+        card: line_before(s, with, b"card\n", card, expect),
         expect,
         end: lines::line_at(s, expect, b"end\n"),
     }

@@ -1,4 +1,5 @@
 -- The sentences of document 01 hold of the process and determine it: two processes of one order of which they hold are the same.
+use Rattle.reply.specs.Respond.{Passed}
 use Prim.Native.Nat.{ℕ, zero, suc, ◌+◌, ◌≤◌, ◌<◌}
 use native.Mathlib.Nat.{not-suc-le-zero, le_antisymm, eq-zero-or-pos}
 use native.Mathlib.Omega.{arith}
@@ -9,7 +10,6 @@ use lib.ListN.{length, get_or, take, drop, length-drop}
 use lib.Seq.{get_or-drop, ext_get_or}
 use Rattle.laws.specs.Each.{Each, each_map}
 use Rattle.laws.specs.Sums.{le_or_lt, sum, sum_less}
-use Rattle.reply.specs.declared.Checked.TheVariants.{Passed}
 use Rattle.net.specs.declared.Net.{Net}
 use Rattle.firing.specs.Semantics.{arcs_of, takes, start_marking}
 use Rattle.firing.specs.Tokens.{tokens}

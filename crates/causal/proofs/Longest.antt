@@ -1,5 +1,6 @@
 -- How long a process can be: a firing cuts at most one entry of a place's queue in two and adds one, so all lines together have at most 1 + 2 · 64 items of a
 -- place, and each takes at most 10 bytes with its separator.
+use Rattle.reply.specs.Respond.{Passed}
 use Prim.Native.Nat.{ℕ, zero, suc, ◌+◌, ◌-◌, ◌*◌, ◌≤◌, ◌<◌, min}
 use native.Mathlib.Nat.{mul-le-mul, min-eq_left, min-eq_right, sub-eq-zero_of_le}
 use native.Mathlib.Omega.{arith}
@@ -12,7 +13,6 @@ use lib.ListN.{length, get_or, take, drop, length-append, length-map, length-dro
 use borrow.Author.Tests.{eqb-true, eqb-false}
 use Rattle.laws.specs.Each.{Each, each_map, each_mapped, each_zip, each_of}
 use Rattle.laws.specs.Sums.{le_or_lt}
-use Rattle.reply.specs.declared.Checked.TheVariants.{Passed}
 use Rattle.text.specs.Decimal.{decimal, field}
 use Rattle.text.specs.Key.{bytes}
 use Rattle.text.specs.Number.{separator}

@@ -1,11 +1,11 @@
 -- Document 01, "The caller": slots past a value's counts are no part of it. Nets that agree in all that counts have the same process of an order that
 -- the tokens allow.
+use Rattle.reply.specs.Respond.{Passed}
 use Prim.Native.Nat.{ℕ, ◌<◌}
 use native.Mathlib.Omega.{arith}
 use mathlib.Core.Path.{◌≡◌, refl}
 use mathlib.Core.List.{List, [], ◌∷◌}
 use Rattle.laws.specs.Each.{Each}
-use Rattle.reply.specs.declared.Checked.TheVariants.{Passed}
 use Rattle.net.specs.declared.Net.{Net}
 use Rattle.net.specs.Same.{SameNet}
 use Rattle.firing.specs.Semantics.{arcs_of, start_marking}

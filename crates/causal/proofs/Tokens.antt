@@ -1,5 +1,6 @@
 -- What makes the process believable beyond its definition: counts sum to markings and weights, each token that is taken was given before and
 -- is taken once, and the tokens of a place leave in the order in which they came.
+use Rattle.reply.specs.Respond.{Passed}
 use Prim.Native.Nat.{ℕ, zero, suc, ◌+◌, ◌≤◌, ◌<◌}
 use native.Mathlib.Nat.{not-suc-le-zero, le_of_suc-le-suc}
 use native.Mathlib.Omega.{arith}
@@ -14,7 +15,6 @@ use borrow.Author.Tests.{leb-true}
 use Rattle.laws.specs.Tests.{all_below, all_at}
 use Rattle.laws.specs.Each.{Each}
 use Rattle.laws.specs.Sums.{le_or_lt}
-use Rattle.reply.specs.declared.Checked.TheVariants.{Passed}
 use Rattle.form.proofs.Found.{also_first, also_second}
 use Rattle.net.specs.declared.Net.{Net}
 use Rattle.firing.specs.Semantics.{arcs_of, takes, gives, start_marking, enough, enabled, after}

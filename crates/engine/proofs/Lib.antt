@@ -1,7 +1,6 @@
 pub mod Clocks
 pub mod Flags
 pub mod Giving
-pub mod Inputs
 pub mod Lines
 pub mod Listing
 pub mod Operations

@@ -3,8 +3,10 @@ use Prim.Native.Nat.{ℕ}
 use mathlib.Core.Path.{◌≡◌, refl, sym, ap, ◌∙◌}
 use mathlib.Core.Bool.{Bool, true, false}
 use mathlib.Core.List.{List, [], ◌∷◌, ◌++◌, append_assoc, append-nil}
-use Rattle.laws.specs.Writing.{Output, put, Puts, put_append, puts_length}
+use Rattle.laws.specs.Writing.{Output, put, put_append}
 use Rattle.text.specs.Decimal.{decimal}
+use Rattle.text.specs.declared.Writer.{Writer}
+use Rattle.text.specs.Writer.{Writes}
 use Rattle.causal.specs.Print.{item_text, joined_by, list_text}
 use Rattle.engine.specs.Counts.{comma, list_end, line_from, lined, Listing}
 
@@ -25,34 +27,37 @@ line_whole [] = refl
 line_whole (x ∷ texts) = append_assoc x (joined_by false texts) (10 ∷ []) ∙ ap (λ (l : List ℕ). x ++ l) (line_rest texts)
 
 -- ---- the writer
-pub listing_start : (s : List ℕ) (at : ℕ) (first : Bool) (texts : List (List ℕ)) → Listing s at first texts s at first texts
-listing_start s at first texts = record { same = λ later. refl; long = refl }
+pub listing_start : (w : Writer) (first : Bool) (texts : List (List ℕ)) → Listing w first texts w first texts
+listing_start w first texts = record { output = refl; same = λ later. refl }
 
-module _ {s : List ℕ} {at : ℕ} {first : Bool} {texts : List (List ℕ)} {out : List ℕ} {to : ℕ} {none : Bool} where
+module _ {a : Writer} {first : Bool} {texts : List (List ℕ)} {b : Writer} {none : Bool} where
   -- one text more
-  pub listing_one : {x : List ℕ} {more : List (List ℕ)} → Listing s at first texts out to none (x ∷ more) → {to' : ℕ} {out' : List ℕ}
-      → Puts out to (comma none ++ x) to' out' → Listing s at first texts out' to' false more
+  pub listing_one : {x : List ℕ} {more : List (List ℕ)} → Listing a first texts b none (x ∷ more) → {c : Writer} → Writes b (comma none ++ x) c
+      → Listing a first texts c false more
   unfolding line_from
   listing_one {x} {more} w p =
       record {
+        output = p.same ∙ w.output;
         same = λ later.
-            w.same later ∙ put_append (record { to = to; bytes = out }) (comma none ++ x) (line_from false (more ++ later))
-            ∙ ap (λ (o : Output). put o (line_from false (more ++ later))) (sym p.same);
-        long = puts_length p ∙ w.long;
+            w.same later ∙ put_append (record { to = b.at; bytes = b.out.now }) (comma none ++ x) (line_from false (more ++ later))
+            ∙ ap (λ (o : Output). put o (line_from false (more ++ later))) (sym p.puts.same);
       }
 
   -- the texts of another writer behind them
-  pub listing_then : Listing s at first texts out to none [] → {more : List (List ℕ)} {to' : ℕ} {out' : List ℕ} {none' : Bool}
-      → Listing out to none more out' to' none' [] → Listing s at first (texts ++ more) out' to' none' []
+  pub listing_then : Listing a first texts b none [] → {more : List (List ℕ)} {c : Writer} {none' : Bool} → Listing b none more c none' []
+      → Listing a first (texts ++ more) c none' []
   listing_then w {more} v =
       record {
-        same = λ later. ap (lined s at first) (append_assoc texts more later) ∙ w.same (more ++ later) ∙ v.same later;
-        long = v.long ∙ w.long;
+        output = v.output ∙ w.output;
+        same = λ later. ap (lined a first) (append_assoc texts more later) ∙ w.same (more ++ later) ∙ v.same later;
       }
 
 -- the end of the line
-pub line_done : {s : List ℕ} {at : ℕ} {texts : List (List ℕ)} {out : List ℕ} {to : ℕ} {none : Bool} → Listing s at true texts out to none []
-    → {to' : ℕ} {out' : List ℕ} → Puts out to (list_end none) to' out' → Puts s at (list_text texts) to' out'
+pub line_done : {a : Writer} {texts : List (List ℕ)} {b : Writer} {none : Bool} → Listing a true texts b none [] → {c : Writer} → Writes b (list_end none) c
+    → Writes a (list_text texts) c
 unfolding line_from
-line_done {s} {at} {texts} w p =
-    record { same = p.same ∙ sym (w.same []) ∙ ap (lined s at true) (append-nil texts) ∙ rw (line_whole texts) refl }
+line_done {a} {texts} w p =
+    record {
+      same = p.same ∙ w.output;
+      puts = record { same = p.puts.same ∙ sym (w.same []) ∙ ap (lined a true) (append-nil texts) ∙ rw (line_whole texts) refl };
+    }

@@ -1,4 +1,5 @@
 -- What each operation comes to, from what the code computes of a run or an order that passed its check.
+use Rattle.std.specs.Prelude.{Err, Ok, Result}
 use Prim.Native.Nat.{ℕ, ◌+◌, ◌^◌, ◌≤◌, ◌<◌}
 use native.Mathlib.Nat.{min-le_right}
 use native.Mathlib.Omega.{arith}
@@ -7,10 +8,7 @@ use mathlib.Core.List.{List}
 use lib.ListN.{length}
 use Rattle.laws.specs.Each.{each_map}
 use Rattle.reply.specs.declared.Refusal.{Refusal}
-use Rattle.reply.specs.declared.Checked.TheVariants as checked
-use Rattle.reply.specs.declared.Reply.{Reply}
-use Rattle.reply.specs.declared.Reply.TheVariants.{Refused}
-use Rattle.reply.specs.Respond.{answer, Responded}
+use Rattle.reply.specs.Respond.{answer, Responded, Passed, Reply}
 use Rattle.form.proofs.Found.{also_first, also_second}
 use Rattle.net.specs.declared.Net.{Net}
 use Rattle.net.specs.Net.{net_card}
@@ -32,7 +30,6 @@ use Rattle.timing.proofs.Rounded.{rounded_checked, scheduled_checked}
 use Rattle.causal.specs.Print.{process_text}
 use Rattle.cards.specs.Cards.{card_of, run_checked, order_checked}
 use Rattle.cards.proofs.Cards.{run_short}
-use Rattle.schedule.specs.declared.Timetabled.{Timetabled}
 use Rattle.schedule.specs.Timetable.{timetabled, scheduled_run}
 use Rattle.schedule.proofs.Timetables.{timetabled_scheduled}
 use Rattle.firing.specs.Claims.{view}
@@ -45,7 +42,7 @@ use Rattle.operations.proofs.Causality.{accepted_tokens}
 use Rattle.engine.proofs.Outcome.{refusal_answered, check_refused, check_passed}
 
 -- the card of a run that passes its check fits the buffer
-card_fits : (net : Net) (r : Run) → run_checked net r ≡ checked.Passed → length ((run_card 0 0).text r) ≤ 2048
+card_fits : (net : Net) (r : Run) → run_checked net r ≡ Passed → length ((run_card 0 0).text r) ≤ 2048
 card_fits net r p = omega (arith, ap length (run_text_lem 0 0 net.sheet net.transitions r), run_short net r p)
 
 -- the same answer
@@ -70,7 +67,7 @@ module _ (net : Net) (run : Run) {p : Played} (is : p ≡ play net (rule_of (arc
   outcome_same = ap (λ (x : Played). ended net x.checked x.state) replay_same
 
   -- the end of a run that passes its check is a number of 64 bits
-  pub rest_fits : run_checked net run ≡ checked.Passed → p.state.now + run.rest < 2 ^ 64
+  pub rest_fits : run_checked net run ≡ Passed → p.state.now + run.rest < 2 ^ 64
   unfolding start_state
   rest_fits e =
       let f = (run_in_ranges net.sheet net.transitions run).0 (also_second (net_card.check net 1) _ e) in
@@ -78,18 +75,18 @@ module _ (net : Net) (run : Run) {p : Played} (is : p ≡ play net (rule_of (arc
       let soon = play_soon net (rule_of (arcs_of net) run.memory) run.denominator 10000000 (firings_of run) (start_state net) 0 waits in
       omega (arith, ap (λ (x : Played). x.state.now) is, soon, length_firings run, f.few, f.rest, min-le_right run.count 64)
 
-  module _ {r : Refusal} (out : List ℕ) (e : p.checked ≡ checked.Refused r) where
-    pub replay_refused : Responded (replay_of net run) out (Refused r) out
+  module _ {r : Refusal} (out : List ℕ) (e : p.checked ≡ Err r) where
+    pub replay_refused : Responded (replay_of net run) out (Err r) out
     replay_refused = rw (outcome_same, e) (refusal_answered r out)
 
-    pub round_refused : Responded (round_of net run) out (Refused r) out
+    pub round_refused : Responded (round_of net run) out (Err r) out
     round_refused = check_refused (answer ((card_of run_card net).text (rounded_run run))) out (judged ∙ e)
 
-    pub process_refused : Responded (process_of net run) out (Refused r) out
+    pub process_refused : Responded (process_of net run) out (Err r) out
     process_refused = check_refused (answer (process_text net (order_of (firings_of run)))) out (judged ∙ e)
 
-  module _ (e : p.checked ≡ checked.Passed) where
-    pub process_allowed : tokens net (order_of (firings_of run)) (start_marking net) 0 ≡ checked.Passed
+  module _ (e : p.checked ≡ Passed) where
+    pub process_allowed : tokens net (order_of (firings_of run)) (start_marking net) 0 ≡ Passed
     process_allowed = accepted_tokens net run (judged ∙ e)
 
     module _ {entry : List ℕ} {r : Reply} {exit : List ℕ} where
@@ -105,44 +102,44 @@ module _ (net : Net) (run : Run) {p : Played} (is : p ≡ play net (rule_of (arc
           (other_text (ap (run_card 0 0).text same ∙ run_text_lem 0 0 net.sheet net.transitions (rounded_run run)) v)
 
 -- the rounded run of a run that passes its check fits the buffer
-pub rounded_fits : (net : Net) (run : Run) → run_checked net run ≡ checked.Passed → {q : Run} → q ≡ rounded_run run → length ((run_card 0 0).text q) ≤ 2048
+pub rounded_fits : (net : Net) (run : Run) → run_checked net run ≡ Passed → {q : Run} → q ≡ rounded_run run → length ((run_card 0 0).text q) ≤ 2048
 rounded_fits net run e {q} is =
     let own = also_second (net_card.check net 1) _ e in
     card_fits net q (rw (also_first (net_card.check net 1) _ e, is) (rounded_checked net.sheet net.transitions run own))
 
--- ---- t is the timetable of an order that passed its check
-module _ (net : Net) (o : Order) (e : order_checked net o ≡ checked.Passed) {t : Timetabled} (is : t ≡ timetabled net o) where
+-- ---- t is the timetable of an order that passed its check, or why there is none
+module _ (net : Net) (o : Order) (e : order_checked net o ≡ Passed) {t : Result Run Refusal} (is : t ≡ timetabled net o) where
   abbrev scheduled : Scheduled
   scheduled = schedule net (rule_of (arcs_of net) o.memory) (fires_of o)
 
   own : t ≡ scheduled_run o scheduled
   own = is ∙ timetabled_scheduled net o (earliest_within net (also_first (net_card.check net 1) _ e))
 
-  pub timetable_refused : {r : Refusal} (out : List ℕ) → t.checked ≡ checked.Refused r → Responded (timetable_of net o) out (Refused r) out
-  timetable_refused {r} out q = go scheduled (ap (λ (x : Timetabled). x.checked) (sym own) ∙ q)
+  pub timetable_refused : {r : Refusal} (out : List ℕ) → t ≡ Err r → Responded (timetable_of net o) out (Err r) out
+  timetable_refused {r} out q = go scheduled (sym own ∙ q)
     where
-      go : (s : Scheduled) → (scheduled_run o s).checked ≡ checked.Refused r → Responded (schedule_text net o s) out (Refused r) out
+      go : (s : Scheduled) → scheduled_run o s ≡ Err r → Responded (schedule_text net o s) out (Err r) out
       go (timed ws) h = let z : ◌≡◌ {A = ℕ} 0 1 = cc in absurd (omega arith)
       go (unschedulable q) h = let same : q ≡ r = cc in rw same (refusal_answered r out)
 
-  module _ (q : t.checked ≡ checked.Passed) where
-    timely : (ws : List ℕ) × (scheduled ≡ timed ws) × (t.run ≡ timetable_run o.sheet o.memory (fires_of o) ws)
-    timely = go scheduled refl (ap (λ (x : Timetabled). x.checked) (sym own) ∙ q)
+  module _ {run : Run} (q : t ≡ Ok run) where
+    timely : (ws : List ℕ) × (scheduled ≡ timed ws) × (run ≡ timetable_run o.sheet o.memory (fires_of o) ws)
+    timely = go scheduled refl (sym own ∙ q)
       where
-        go : (s : Scheduled) → scheduled ≡ s → (scheduled_run o s).checked ≡ checked.Passed
-            → (ws : List ℕ) × (scheduled ≡ timed ws) × (t.run ≡ timetable_run o.sheet o.memory (fires_of o) ws)
-        go (timed ws) h k = (ws, h, ap (λ (x : Timetabled). x.run) (own ∙ ap (scheduled_run o) h))
+        go : (s : Scheduled) → scheduled ≡ s → scheduled_run o s ≡ Ok run
+            → (ws : List ℕ) × (scheduled ≡ timed ws) × (run ≡ timetable_run o.sheet o.memory (fires_of o) ws)
+        go (timed ws) h k = let same : timetable_run o.sheet o.memory (fires_of o) ws ≡ run = cc in (ws, h, sym same)
         go (unschedulable r) h k = let z : ◌≡◌ {A = ℕ} 0 1 = cc in absurd (omega arith)
 
-    pub timetable_fits : length ((run_card 0 0).text t.run) ≤ 2048
+    pub timetable_fits : length ((run_card 0 0).text run) ≤ 2048
     timetable_fits =
         let (ws, h, same) = timely in
         let net_passed = also_first (net_card.check net 1) _ e in
-        card_fits net t.run
+        card_fits net run
         (rw (net_passed, same) (scheduled_checked net (rule_of (arcs_of net) o.memory) o ws h (earliest_within net net_passed)
         (also_second (net_card.check net 1) _ e)))
 
-    pub timetable_answered : {entry : List ℕ} {r : Reply} {exit : List ℕ} → Responded (answer ((run_card 0 0).text t.run)) entry r exit
+    pub timetable_answered : {entry : List ℕ} {r : Reply} {exit : List ℕ} → Responded (answer ((run_card 0 0).text run)) entry r exit
         → Responded (timetable_of net o) entry r exit
     timetable_answered v =
         let (ws, h, same) = timely in

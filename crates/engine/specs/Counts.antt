@@ -1,16 +1,13 @@
--- What the writer of a process holds in arrays, the queue of each place in 65 slots, one place behind the other; and what its functions make of them.
-use Rattle.std.specs.Prelude.{ℕ, zero, suc, ◌+◌, ◌-◌, ◌*◌, ◌≤◌, ◌<◌, ◌≡◌, Bool, false, cond, ◌||◌, List, [], ◌∷◌, ◌++◌, map, length, get_or}
-use Rattle.laws.specs.Tables.{tabled}
+-- What the functions of a process's writer make of the line, of the queue of a place, and of the queues of all places.
+use Rattle.std.specs.Prelude.{ℕ, zero, suc, ◌-◌, ◌≤◌, ◌<◌, ◌≡◌, Bool, false, cond, ◌||◌, List, [], ◌∷◌, ◌++◌, map, length, get_or}
 use Rattle.laws.specs.Writing.{Output, put}
 use Rattle.text.specs.Key.{bytes}
 use Rattle.net.specs.Net.{takes_in}
 use Rattle.causal.specs.Process.{Queues, Item, Event, oldest, without, items_from, items_of}
 use Rattle.causal.specs.Free.{took_from}
 use Rattle.causal.specs.Print.{item_text}
+use Rattle.text.specs.declared.Writer.{Writer}
 use Rattle.engine.specs.declared.process_text.Line.{Line}
-use Rattle.engine.specs.declared.process_text.Draw.{Draw}
-use Rattle.engine.specs.declared.process_text.Drawn.{Drawn}
-use Rattle.engine.specs.declared.process_text.Turn.{Turn}
 
 -- ---- a list's line
 -- the comma before what is not the first
@@ -26,72 +23,51 @@ unfoldable pub line_from : Bool → List (List ℕ) → List ℕ
 line_from first [] = list_end first
 line_from first (x ∷ texts) = comma first ++ x ++ line_from false texts
 
--- the output s from `at` on with that
-abbrev pub lined : List ℕ → ℕ → Bool → List (List ℕ) → Output
-lined s at first texts = put (record { to = at; bytes = s }) (line_from first texts)
+-- the output of a writer that goes on with that
+abbrev pub lined : Writer → Bool → List (List ℕ) → Output
+lined w first texts = put (record { to = w.at; bytes = w.out.now }) (line_from first texts)
 
--- a writer has put some of the texts: whatever comes behind them, what is left leads to the same line
-pub record Listing (s : List ℕ) (at : ℕ) (first : Bool) (texts : List (List ℕ)) (out : List ℕ) (to : ℕ) (none : Bool) (left : List (List ℕ)) : Type 0 where
-  pub same : (later : List (List ℕ)) → lined s at first (texts ++ later) ≡ lined out to none (left ++ later)
-  pub long : length out ≡ length s
+-- some of the texts are written: whatever comes behind them, what is left leads to the same line
+pub record Listing (before : Writer) (first : Bool) (texts : List (List ℕ)) (after : Writer) (none : Bool) (left : List (List ℕ)) : Type 0 where
+  pub output : after.out.ghost_name ≡ before.out.ghost_name
+  pub same : (later : List (List ℕ)) → lined before first (texts ++ later) ≡ lined after none (left ++ later)
 
--- ---- queues in slots
--- the tokens of the producers below top
-unfoldable pub queue_in : List ℕ → ℕ → Queues
-queue_in counts top p = tabled (λ i. get_or counts (65 * p + i) 0) 0 top
-
--- the producers before head have no tokens left
-abbrev pub Bare : List ℕ → ℕ → Type 0
-Bare queue head = (head ≤ length queue) × ((k : ℕ) → k < head → get_or queue k 0 ≡ 0)
-
--- so it is in the first places, for the heads of an array
-abbrev pub AllBare : List ℕ → List ℕ → ℕ → ℕ → Type 0
-AllBare counts heads top places = (p : ℕ) → p < places → Bare (queue_in counts top p) (get_or heads p 0)
+-- ---- queues
+-- the queue of each place
+abbrev pub queue_of : List (List ℕ) → Queues
+queue_of queues p = get_or queues p []
 
 -- ---- taking
--- the queue that a draw is of, and the items that it takes
-abbrev pub drawn_from : List ℕ → Draw → List ℕ
-drawn_from counts d = queue_in counts d.top d.place
+-- the items of the oldest tokens of a place, so many
+abbrev pub items_drawn : ℕ → ℕ → List ℕ → List Item
+items_drawn place need queue = items_from place 0 (oldest need queue)
 
-abbrev pub items_drawn : List ℕ → Draw → List Item
-items_drawn counts d = items_from d.place 0 (oldest d.need (drawn_from counts d))
+-- what taking them makes of the writer, the line and the queue
+pub record Took (before : Writer) (line : Line) (place need : ℕ) (queue left : List ℕ) (after : Writer) (r : Line) : Type 0 where
+  pub here : left ≡ without need queue
+  pub newest : r.newest ≡ (line.newest || took_from (length queue - 1) (items_drawn place need queue))
+  pub listed : Listing before line.first (map item_text (items_drawn place need queue)) after r.first []
 
--- what a draw makes of the output, the line and the counts
-pub record Took (s : List ℕ) (line : Line) (counts : List ℕ) (d : Draw) (out after : List ℕ) (r : Drawn) : Type 0 where
-  pub size : length after ≡ length counts
-  pub here : drawn_from after d ≡ without d.need (drawn_from counts d)
-  pub elsewhere : (q : ℕ) → (q ≡ d.place → ⊥) → queue_in after d.top q ≡ queue_in counts d.top q
-  pub bare : Bare (drawn_from after d) r.head
-  pub newest : r.line.newest ≡ (line.newest || took_from (d.top - 1) (items_drawn counts d))
-  pub listed : Listing s line.to line.first (map item_text (items_drawn counts d)) out r.line.to r.line.first []
+-- what a firing of t takes from each place, and the firing
+abbrev pub taken_in : List ℕ → ℕ → List (List ℕ) → Queues
+taken_in take t queues p = oldest (takes_in take t p) (queue_of queues p)
 
--- what a firing takes from each place, and the firing
-abbrev pub taken_in : List ℕ → List ℕ → Turn → Queues
-taken_in take counts turn p = oldest (takes_in take turn.t p) (queue_in counts turn.top p)
+abbrev pub event_in : List ℕ → ℕ → List (List ℕ) → Event
+event_in take t queues = record { fire = t; from = items_of (taken_in take t queues) (length queues) }
 
-abbrev pub event_in : List ℕ → List ℕ → Turn → Event
-event_in take counts turn = record { fire = turn.t; from = items_of (taken_in take counts turn) turn.places }
-
--- what it asks for: its numbers are within the arrays, and before the heads no tokens are left
-pub record Ready (counts heads : List ℕ) (turn : Turn) : Type 0 where
-  pub listed : turn.t < 32
-  pub few : turn.places ≤ 16
-  pub short : turn.top ≤ 65
-  pub bare : AllBare counts heads turn.top turn.places
-
--- what its taking makes of counts and heads, and whether it took tokens of the newest producer
-pub record TookAll (take counts : List ℕ) (turn : Turn) (after heads : List ℕ) (newest : Bool) : Type 0 where
-  pub size : length after ≡ length counts
-  pub queues : (p : ℕ) → p < turn.places → queue_in after turn.top p ≡ without (takes_in take turn.t p) (queue_in counts turn.top p)
-  pub bare : AllBare after heads turn.top turn.places
-  pub linked : newest ≡ took_from (turn.top - 1) (items_of (taken_in take counts turn) turn.places)
+-- what its taking makes of the queues, and whether it took tokens of the newest producer, where all have as many producers
+pub record TookAll (take : List ℕ) (t : ℕ) (queues after : List (List ℕ)) (newest : Bool) : Type 0 where
+  pub size : length after ≡ length queues
+  pub left : (p : ℕ) → p < length queues → queue_of after p ≡ without (takes_in take t p) (queue_of queues p)
+  pub linked : (producers : ℕ) → ((p : ℕ) → p < length queues → length (queue_of queues p) ≡ producers)
+      → newest ≡ took_from (producers - 1) (items_of (taken_in take t queues) (length queues))
 
 -- ---- giving
--- what giving makes of the counts; a weight is a byte
-pub record Gave (counts weights : List ℕ) (from places producer : ℕ) (after : List ℕ) : Type 0 where
-  pub size : length after ≡ length counts
-  pub queues : (p : ℕ) → p < places → queue_in after (suc producer) p ≡ queue_in counts producer p ++ (get_or weights (from + p) 0 ∷ [])
-  pub small : (p : ℕ) → p < places → get_or weights (from + p) 0 ≤ 255
+-- what giving makes of the queues; a weight is a byte
+pub record Gave (queues : List (List ℕ)) (weights : List ℕ) (after : List (List ℕ)) : Type 0 where
+  pub size : length after ≡ length queues
+  pub longer : (p : ℕ) → p < length queues → queue_of after p ≡ queue_of queues p ++ (get_or weights p 0 ∷ [])
+  pub small : (p : ℕ) → p < length queues → get_or weights p 0 ≤ 255
 
 -- ---- free neighbours
 -- the numbers i, i + 1, .., n of them, whose flag is down

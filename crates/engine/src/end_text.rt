@@ -3,60 +3,51 @@ ghost use Rattle.std.specs.Prelude.{◌≡◌, true, cond, ◌++◌, ◌≤◌};
 ghost use Rattle.laws.specs.Writing.{joined, Puts};
 ghost use Rattle.text.specs.Key.{bytes};
 ghost use Rattle.text.specs.Decimal.{field};
+ghost use Rattle.text.specs.Writer.{Writes};
 ghost use Rattle.firing.specs.Claims.{view};
 ghost use Rattle.operations.specs.Replay.{end_text};
 ghost use Rattle.engine.specs.Clocks.{clock_line};
 
 use firing::State;
 use net::Net;
+use text::Writer;
 
-// The line of a clock written to a position; the position behind it.
-fn put_clock(out: &mut [u8], at: usize, on: bool, clock: u64) -> usize
-    ensures { Puts out.old at (bytes "clock=" ++ cond on (field clock true) (bytes "off\n")) result out.new }
+// The line of a clock.
+fn put_clock(w: &mut Writer, on: bool, clock: u64)
+    ensures { Writes w.old (bytes "clock=" ++ cond on (field clock true) (bytes "off\n")) w.new }
 {
-    let to = text::put_bytes(&mut *out, at, b"clock=");
+    w.put_bytes(b"clock=");
     if on {
-        text::put_field(out, to, clock, true)
+        w.put_field(clock, true);
     } else {
-        text::put_bytes(out, to, b"off\n")
+        w.put_bytes(b"off\n");
     }
 }
 
-// The lines of the first clocks written to a position; the position behind them.
-fn put_clocks(
-    out: &mut [u8],
-    at: usize,
-    flags: [bool; 32],
-    since: [u64; 32],
-    instant: u64,
-    count: usize,
-) -> usize
+// The lines of the clocks of so many transitions.
+fn put_clocks(w: &mut Writer, flags: &[bool; 32], since: &[u64; 32], instant: u64, count: usize)
     requires { count ≤ 32 }
-    ensures { Puts out.old at (joined (clock_line flags since instant) count) result out.new }
+    ensures { Writes w.old (joined (clock_line flags.now since.now instant) count) w.new }
 {
-    let mut to = at;
-    let mut u: usize = 0;
-    while u < count {
-        to = put_clock(&mut *out, to, flags[u], steps::elapsed(instant, since[u]));
-        u += 1;
+    for (on, from) in flags[..count].iter().zip(since) {
+        put_clock(w, *on, instant.saturating_sub(*from));
     }
-    to
 }
 
-// The end of a replay written to the front of an output; the position behind it.
+// The lines of a replay's end.
+fn put_end_lines(w: &mut Writer, net: &Net, st: &State)
+    ensures { Writes w.old (end_text net.now (view st.entry.now)) w.new }
+{
+    let flags = steps::enabled_flags(&net.take, net.places, net.transitions, &st.marking);
+    form::put_items_line(w, b"end=", &st.marking[..net.places.min(16)]);
+    put_clocks(w, &flags, &st.since, st.now, net.transitions.min(32));
+}
+
+// The end of a replay at the front of an output, as far as it fits, and how many bytes it has where it does.
 pub(crate) fn put_end(out: &mut [u8], net: Net, st: State) -> usize
     ensures { Puts out.old 0 (end_text net (view st)) result out.new }
 {
-    let marking = st.marking;
-    let since = st.since;
-    let flags = steps::enabled_flags(&net.take, net.places, net.transitions, &marking);
-    let to = form::put_items_line(&mut *out, 0, b"end=", marking, net.places);
-    put_clocks(
-        out,
-        to,
-        flags,
-        since,
-        st.now,
-        steps::least(net.transitions, 32),
-    )
+    let mut w = Writer::new(out);
+    put_end_lines(&mut w, &net, &st);
+    w.at
 }

@@ -5,8 +5,7 @@ mod end_text;
 mod process_text;
 
 ghost use Rattle.std.specs.Prelude.{◌≡◌, ◌≤◌, length};
-ghost use Rattle.reply.specs.declared.Checked.TheVariants.{Passed};
-ghost use Rattle.reply.specs.Respond.{answer, Responded};
+ghost use Rattle.reply.specs.Respond.{Passed, answer, Responded};
 ghost use Rattle.run.specs.Run.{run_card, firings_of, order_of};
 ghost use Rattle.firing.specs.Semantics.{start_marking};
 ghost use Rattle.firing.specs.Tokens.{tokens};
@@ -19,31 +18,30 @@ ghost use Rattle.operations.specs.Process.{process_of, process_values, process_c
 ghost use Rattle.operations.specs.Timetable.{timetable_of, timetable_values, timetable_cards};
 
 use firing::State;
-use form::LineRead;
 use net::Net;
-use reply::{Checked, Reply};
+use reply::Refusal;
 use run::{Order, Run};
 
 // The card of a run as the answer, made in a buffer where the output might be too short for it.
-fn respond_run(run: Run, out: &mut [u8]) -> Reply
+fn respond_run(run: Run, out: &mut [u8]) -> Result<usize, Refusal>
     requires { length ((run_card 0 0).text run) ≤ 2048 }
     ensures { Responded (answer ((run_card 0 0).text run)) out.old result out.new }
 {
     if 2048 <= out.len() {
-        return Reply::Written(run_card::put_run(out, 0, run));
+        return Ok(run_card::put_run(out, run));
     }
     let mut card = [0u8; 2048];
-    let n = run_card::put_run(&mut card, 0, run);
+    let n = run_card::put_run(&mut card, run);
     reply::respond(&card[..n], out)
 }
 
 // The end of a replay as the answer.
-pub fn respond_end(net: Net, st: State, out: &mut [u8]) -> Reply
+pub fn respond_end(net: Net, st: State, out: &mut [u8]) -> Result<usize, Refusal>
     ensures { Responded (answer (end_text net (view st))) out.old result out.new }
 {
     let fits = 1280 <= out.len();
     if fits {
-        return Reply::Written(end_text::put_end(out, net, st));
+        return Ok(end_text::put_end(out, net, st));
     }
     let mut text = [0u8; 1280];
     let n = end_text::put_end(&mut text, net, st);
@@ -51,170 +49,117 @@ pub fn respond_end(net: Net, st: State, out: &mut [u8]) -> Reply
 }
 
 // The process of a run as the answer.
-fn respond_process(net: Net, run: Run, out: &mut [u8]) -> Reply
+fn respond_process(net: Net, run: Run, out: &mut [u8]) -> Result<usize, Refusal>
     requires { (tokens net (order_of (firings_of run)) (start_marking net) 0 ≡ Passed) × (length (process_text net (order_of (firings_of run))) ≤ 22001) }
     ensures { Responded (answer (process_text net (order_of (firings_of run)))) out.old result out.new }
 {
     if 22001 <= out.len() {
-        return Reply::Written(process_text::put_process(out, 0, net, run));
+        return Ok(process_text::put_process(out, net, run));
     }
     let mut text = [0u8; 22001];
-    let n = process_text::put_process(&mut text, 0, net, run);
+    let n = process_text::put_process(&mut text, net, run);
     reply::respond(&text[..n], out)
 }
 
 // The replay of a run that passed its check.
-fn replay_checked(net: Net, run: Run, out: &mut [u8]) -> Reply
+fn replay_checked(net: Net, run: Run, out: &mut [u8]) -> Result<usize, Refusal>
     requires { run_checked net run ≡ Passed }
     ensures { Responded (replay_of net run) out.old result out.new }
 {
-    let p = steps::play(net, run);
-    let c = p.checked;
-    match c {
-        Checked::Refused(r) => Reply::Refused(r),
-        Checked::Passed => {
-            let mut st = p.state;
-            st.now = st.now + run.rest as u64;
-            respond_end(net, st, out)
-        }
-    }
+    let played = steps::play(net, run);
+    played.checked?;
+    let mut state = played.state;
+    state.now += run.rest as u64;
+    respond_end(net, state, out)
 }
 
 // Replays a run of a net, both handed over as values.
-pub fn replay(net: Net, run: Run, out: &mut [u8]) -> Reply
+pub fn replay(net: Net, run: Run, out: &mut [u8]) -> Result<usize, Refusal>
     ensures { Responded (replay_values net run) out.old result out.new }
 {
-    let c = run_card::check_run(net, run);
-    match c {
-        Checked::Refused(r) => Reply::Refused(r),
-        Checked::Passed => replay_checked(net, run, out),
-    }
+    run_card::check_run(net, run)?;
+    replay_checked(net, run, out)
 }
 
 // Replays a run: a net card and, right behind it, a run card.
-pub fn replay_cards(input: &[u8], out: &mut [u8]) -> Reply
+pub fn replay_cards(input: &[u8], out: &mut [u8]) -> Result<usize, Refusal>
     ensures { Responded (replay_cards input.now) out.old result out.new }
 {
-    let n = net_card::read_net(input);
-    let net_read = n.read;
-    let r = run_card::run_behind(input, net_read, n.net.sheet, n.net.transitions, true);
-    let read = r.read;
-    match read {
-        LineRead::Stopped(why) => Reply::Refused(why),
-        LineRead::Next(_) => replay_checked(n.net, r.run, out),
-    }
+    let (net, run) = run_card::net_and_run(input)?;
+    replay_checked(net, run, out)
 }
 
 // The rounding of a run that passed its check.
-fn round_checked(net: Net, run: Run, out: &mut [u8]) -> Reply
+fn round_checked(net: Net, run: Run, out: &mut [u8]) -> Result<usize, Refusal>
     requires { run_checked net run ≡ Passed }
     ensures { Responded (round_of net run) out.old result out.new }
 {
-    let p = steps::play(net, run);
-    let c = p.checked;
-    match c {
-        Checked::Refused(r) => Reply::Refused(r),
-        Checked::Passed => respond_run(schedule::rounded_run(run), out),
-    }
+    steps::play(net, run).checked?;
+    respond_run(schedule::rounded_run(run), out)
 }
 
 // Rounds a run of a net to whole ticks, both handed over as values.
-pub fn round(net: Net, run: Run, out: &mut [u8]) -> Reply
+pub fn round(net: Net, run: Run, out: &mut [u8]) -> Result<usize, Refusal>
     ensures { Responded (round_values net run) out.old result out.new }
 {
-    let c = run_card::check_run(net, run);
-    match c {
-        Checked::Refused(r) => Reply::Refused(r),
-        Checked::Passed => round_checked(net, run, out),
-    }
+    run_card::check_run(net, run)?;
+    round_checked(net, run, out)
 }
 
 // Rounds a run to whole ticks: a net card and, right behind it, a run card.
-pub fn round_cards(input: &[u8], out: &mut [u8]) -> Reply
+pub fn round_cards(input: &[u8], out: &mut [u8]) -> Result<usize, Refusal>
     ensures { Responded (round_cards input.now) out.old result out.new }
 {
-    let n = net_card::read_net(input);
-    let net_read = n.read;
-    let r = run_card::run_behind(input, net_read, n.net.sheet, n.net.transitions, true);
-    let read = r.read;
-    match read {
-        LineRead::Stopped(why) => Reply::Refused(why),
-        LineRead::Next(_) => round_checked(n.net, r.run, out),
-    }
+    let (net, run) = run_card::net_and_run(input)?;
+    round_checked(net, run, out)
 }
 
 // The timetable of an order that passed its check.
-fn timetable_checked(net: Net, order: Order, out: &mut [u8]) -> Reply
+fn timetable_checked(net: Net, order: Order, out: &mut [u8]) -> Result<usize, Refusal>
     requires { order_checked net order ≡ Passed }
     ensures { Responded (timetable_of net order) out.old result out.new }
 {
-    let t = schedule::timetable(net, order);
-    let c = t.checked;
-    match c {
-        Checked::Refused(r) => Reply::Refused(r),
-        Checked::Passed => respond_run(t.run, out),
-    }
+    let run = schedule::timetable(net, order)?;
+    respond_run(run, out)
 }
 
 // The earliest timetable of a firing order on a net, both handed over as values.
-pub fn timetable(net: Net, order: Order, out: &mut [u8]) -> Reply
+pub fn timetable(net: Net, order: Order, out: &mut [u8]) -> Result<usize, Refusal>
     ensures { Responded (timetable_values net order) out.old result out.new }
 {
-    let c = run_card::check_order(net, order);
-    match c {
-        Checked::Refused(r) => Reply::Refused(r),
-        Checked::Passed => timetable_checked(net, order, out),
-    }
+    run_card::check_order(net, order)?;
+    timetable_checked(net, order, out)
 }
 
 // The earliest timetable of a firing order: a net card and, right behind it, an order card.
-pub fn timetable_cards(input: &[u8], out: &mut [u8]) -> Reply
+pub fn timetable_cards(input: &[u8], out: &mut [u8]) -> Result<usize, Refusal>
     ensures { Responded (timetable_cards input.now) out.old result out.new }
 {
-    let n = net_card::read_net(input);
-    let net_read = n.read;
-    let o = run_card::order_behind(input, net_read, n.net.sheet, n.net.transitions);
-    let read = o.read;
-    match read {
-        LineRead::Stopped(why) => Reply::Refused(why),
-        LineRead::Next(_) => timetable_checked(n.net, o.order, out),
-    }
+    let (net, order) = run_card::net_and_order(input)?;
+    timetable_checked(net, order, out)
 }
 
 // The process of a run that passed its check.
-fn process_checked(net: Net, run: Run, out: &mut [u8]) -> Reply
+fn process_checked(net: Net, run: Run, out: &mut [u8]) -> Result<usize, Refusal>
     requires { run_checked net run ≡ Passed }
     ensures { Responded (process_of net run) out.old result out.new }
 {
-    let p = steps::play(net, run);
-    let c = p.checked;
-    match c {
-        Checked::Refused(r) => Reply::Refused(r),
-        Checked::Passed => respond_process(net, run, out),
-    }
+    steps::play(net, run).checked?;
+    respond_process(net, run, out)
 }
 
 // Derives the causal process of a run of a net, both handed over as values.
-pub fn process(net: Net, run: Run, out: &mut [u8]) -> Reply
+pub fn process(net: Net, run: Run, out: &mut [u8]) -> Result<usize, Refusal>
     ensures { Responded (process_values net run) out.old result out.new }
 {
-    let c = run_card::check_run(net, run);
-    match c {
-        Checked::Refused(r) => Reply::Refused(r),
-        Checked::Passed => process_checked(net, run, out),
-    }
+    run_card::check_run(net, run)?;
+    process_checked(net, run, out)
 }
 
 // Derives the causal process of a run: a net card and, right behind it, a run card.
-pub fn process_cards(input: &[u8], out: &mut [u8]) -> Reply
+pub fn process_cards(input: &[u8], out: &mut [u8]) -> Result<usize, Refusal>
     ensures { Responded (process_cards input.now) out.old result out.new }
 {
-    let n = net_card::read_net(input);
-    let net_read = n.read;
-    let r = run_card::run_behind(input, net_read, n.net.sheet, n.net.transitions, true);
-    let read = r.read;
-    match read {
-        LineRead::Stopped(why) => Reply::Refused(why),
-        LineRead::Next(_) => process_checked(n.net, r.run, out),
-    }
+    let (net, run) = run_card::net_and_run(input)?;
+    process_checked(net, run, out)
 }

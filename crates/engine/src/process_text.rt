@@ -1,271 +1,234 @@
-// The causal process of a run: where the tokens that each firing takes are from. The tokens of place p that producer i gave are counted at 65 * p + i.
-ghost use Rattle.std.specs.Prelude.{◌≡◌, [], ◌∷◌, ◌++◌, map, ℕ, ◌+◌, ◌-◌, ◌≤◌, ◌<◌, min, length};
+// The causal process of a run: where the tokens that each firing takes are from.
+ghost use Rattle.std.specs.Prelude.{◌≡◌, [], ◌∷◌, ◌++◌, map, ℕ, ◌+◌, ◌-◌, ◌≤◌, ◌<◌, List, length, get_or};
 ghost use Rattle.laws.specs.Writing.{Puts};
-ghost use Rattle.reply.specs.declared.Checked.TheVariants.{Passed};
+ghost use Rattle.reply.specs.Respond.{Passed};
 ghost use Rattle.text.specs.Key.{bytes};
 ghost use Rattle.text.specs.Decimal.{decimal};
+ghost use Rattle.text.specs.Writer.{Writes};
 ghost use Rattle.run.specs.Run.{firings_of, order_of};
 ghost use Rattle.firing.specs.Semantics.{start_marking};
 ghost use Rattle.firing.specs.Tokens.{tokens};
 ghost use Rattle.causal.specs.Process.{oldest, items_of};
 ghost use Rattle.causal.specs.Print.{item_text, list_text, event_text, process_text};
-ghost use Rattle.engine.specs.Counts.{comma, list_end, queue_in, Bare, Took, event_in, Ready, TookAll, Gave, unset};
+ghost use Rattle.engine.specs.Counts.{comma, list_end, queue_of, Took, event_in, TookAll, Gave, unset};
 
 use net::Net;
 use run::Run;
+use std::array;
+use std::marker::Model;
+use text::Writer;
 
-// A line of items in the making: where its writer stands, whether it has no item yet, and whether tokens of the newest producer are among its items.
+// The tokens of a place, the oldest first: how many remain of each producer's. Of the producers before `head` none has tokens left.
+#[derive(Drop)]
+struct Queue {
+    counts: [u8; 65],
+    producers: usize,
+    head: usize,
+}
+
+impl Model for Queue {
+    ghost use Rattle.std.specs.Prelude.{ℕ, List, take};
+
+    ghost Value = { List ℕ };
+
+    ghost use Rattle.engine.specs.Queue.{IsQueue};
+
+    ghost view = { λ q. take q.producers q.counts };
+
+    ghost invariant = { IsQueue };
+}
+
+// A line of items in the making: whether it has no item yet, and whether tokens of the newest producer are among its items.
 #[derive(Clone, Copy)]
 struct Line {
-    to: usize,
     first: bool,
     newest: bool,
 }
 
-// What is to be taken from a place: so many tokens, the oldest first. Of the producers below `top` those before `head` have none left.
-#[derive(Clone, Copy)]
-struct Draw {
-    place: usize,
-    head: usize,
-    top: usize,
-    need: u8,
-}
-
-// What taking from a place came to: the line behind its items, and the producer before which none has tokens left.
-#[derive(Clone, Copy)]
-struct Drawn {
-    line: Line,
-    head: usize,
-}
-
-// A firing of t in a net with so many places; the producers before it are those below `top`.
-#[derive(Clone, Copy)]
-struct Turn {
-    t: usize,
-    places: usize,
-    top: usize,
-}
-
-// The lower of two counts of tokens.
-fn lower(a: u8, b: u8) -> u8
-    ensures { result ≡ min a b }
-{
-    if a < b { a } else { b }
-}
-
 // The comma before what is not the first of its line.
-fn put_comma(out: &mut [u8], at: usize, first: bool) -> usize
-    ensures { Puts out.old at (comma first) result out.new }
+#[tactic(auto, using(text::proofs::Writing::writes_none))]
+fn put_comma(w: &mut Writer, first: bool)
+    ensures { Writes w.old (comma first) w.new }
 {
-    if first {
-        return at;
+    if !first {
+        w.put_byte(b',');
     }
-    text::put_byte(out, at, 44)
 }
 
 // A number and a dot behind it.
-fn put_part(out: &mut [u8], at: usize, n: u64) -> usize
-    ensures { Puts out.old at (decimal n ++ (46 ∷ [])) result out.new }
+fn put_part(w: &mut Writer, n: u64)
+    ensures { Writes w.old (decimal n ++ (46 ∷ [])) w.new }
 {
-    let to = text::put_number(&mut *out, at, n);
-    text::put_byte(out, to, 46)
+    w.put_number(n);
+    w.put_byte(b'.');
 }
 
 // An item, with a comma before it where it is not the first of its line.
-fn put_item(
-    out: &mut [u8],
-    at: usize,
-    first: bool,
-    place: usize,
-    producer: usize,
-    count: u8,
-) -> usize
-    ensures { Puts out.old at (comma first ++ item_text (record { place = place; producer = producer; count = count })) result out.new }
+fn put_item(w: &mut Writer, first: bool, place: usize, producer: usize, count: u8)
+    ensures { Writes w.old (comma first ++ item_text (record { place = place; producer = producer; count = count })) w.new }
 {
-    let mut to = put_comma(&mut *out, at, first);
-    to = put_part(&mut *out, to, place as u64);
-    to = put_part(&mut *out, to, producer as u64);
-    text::put_number(out, to, count as u64)
+    put_comma(w, first);
+    put_part(w, place as u64);
+    put_part(w, producer as u64);
+    w.put_number(count as u64);
 }
 
 // The end of a line; in an empty line the word `none` stands before it.
-fn end_line(out: &mut [u8], at: usize, first: bool) -> usize
-    ensures { Puts out.old at (list_end first) result out.new }
+fn end_line(w: &mut Writer, first: bool)
+    ensures { Writes w.old (list_end first) w.new }
 {
     if first {
-        return text::put_bytes(out, at, b"none\n");
+        w.put_bytes(b"none\n");
+    } else {
+        w.put_byte(b'\n');
     }
-    text::put_byte(out, at, 10)
 }
 
-// Takes the oldest tokens of a place and writes their items.
-fn take_oldest(out: &mut [u8], counts: &mut [u8; 1040], line: Line, draw: Draw) -> Drawn
-    requires { (draw.place < 16) × (draw.top ≤ 65) × Bare (queue_in counts.old draw.top draw.place) draw.head }
-    ensures { Took out.old line counts.old draw out.new counts.new result }
-{
-    let place = draw.place;
-    let top = draw.top;
-    let base = 65 * place;
-    let mut so_far = line;
-    let mut need = draw.need;
-    let mut head = draw.head;
-    let mut i = draw.head;
-    'producers: while i < top {
-        if need == 0 {
-            break 'producers;
+impl Queue {
+    // Of no producer.
+    fn new() -> Queue
+        ensures { result ≡ [] }
+    {
+        Queue {
+            counts: [0; 65],
+            producers: 0,
+            head: 0,
         }
-        let c = counts[base + i];
-        let x = lower(need, c);
-        if x != 0 {
-            counts[base + i] = c - x;
-            let to = put_item(&mut *out, so_far.to, so_far.first, place, i, x);
-            so_far = Line {
-                to,
-                first: false,
-                newest: so_far.newest | (i + 1 == top),
-            };
-            head = i;
-        }
-        need -= x;
-        i += 1;
     }
-    Drawn { line: so_far, head }
+
+    // The tokens of a new producer arrive.
+    fn give(&mut self, count: u8)
+        requires { length self.old < 65 }
+        ensures { self.new ≡ self.old ++ (count ∷ []) }
+    {
+        self.counts[self.producers] = count;
+        self.producers += 1;
+    }
+
+    // Takes the oldest tokens, so many, and writes their items as those of a place; the line behind them.
+    fn take_oldest(&mut self, w: &mut Writer, line: Line, place: usize, count: u8) -> Line
+        ensures { Took w.old line place count self.old self.new w.new result }
+    {
+        let mut so_far = line;
+        let mut need = count;
+        for i in self.head..self.producers {
+            if need == 0 {
+                break;
+            }
+            let taken = need.min(self.counts[i]);
+            if taken != 0 {
+                self.counts[i] -= taken;
+                self.head = i;
+                put_item(w, so_far.first, place, i, taken);
+                so_far = Line {
+                    first: false,
+                    newest: so_far.newest | (i + 1 == self.producers),
+                };
+            }
+            need -= taken;
+        }
+        so_far
+    }
 }
 
-// Takes what a firing takes of each place and writes the items and the line's end.
-fn put_taken(
-    out: &mut [u8],
-    at: usize,
-    take: &[u8; 512],
-    counts: &mut [u8; 1040],
-    heads: &mut [usize; 16],
-    turn: Turn,
-) -> Line
-    requires { Ready counts.old heads.old turn }
-    ensures { TookAll take.now counts.old turn counts.new heads.new result.newest
-        × Puts out.old at (list_text (map item_text (event_in take.now counts.old turn).from)) result.to out.new }
+// Takes what a firing of t takes of each place and writes the items and the line's end. Whether it took tokens of the newest producer.
+fn put_taken(w: &mut Writer, take: &[u8; 512], queues: &mut [Queue], t: usize) -> bool
+    requires listed { t < 32 }
+    requires few { length queues.old ≤ 16 }
+    ensures { TookAll take.now t queues.old queues.new result
+        × Writes w.old (list_text (map item_text (event_in take.now t queues.old).from)) w.new }
 {
     let mut line = Line {
-        to: at,
         first: true,
         newest: false,
     };
-    let mut p: usize = 0;
-    while p < turn.places {
-        let need = take[32 * p + turn.t];
+    for (p, queue) in queues.iter_mut().enumerate() {
+        let need = take[32 * p + t];
         if need != 0 {
-            let draw = Draw {
-                place: p,
-                head: heads[p],
-                top: turn.top,
-                need,
-            };
-            let r = take_oldest(&mut *out, &mut *counts, line, draw);
-            let next = r.line;
-            line = next;
-            heads[p] = r.head;
+            line = queue.take_oldest(w, line, p, need);
         }
-        p += 1;
     }
-    line.to = end_line(out, line.to, line.first);
-    line
+    end_line(w, line.first);
+    line.newest
 }
 
-// The lines of a firing: where the tokens that it takes are from.
-fn put_event(
-    out: &mut [u8],
-    at: usize,
-    take: &[u8; 512],
-    counts: &mut [u8; 1040],
-    heads: &mut [usize; 16],
-    turn: Turn,
-) -> Line
-    requires { Ready counts.old heads.old turn }
-    ensures { TookAll take.now counts.old turn counts.new heads.new result.newest
-        × Puts out.old at (event_text (event_in take.now counts.old turn)) result.to out.new }
+// The lines of a firing of t: where the tokens that it takes are from. Whether it took tokens of the newest producer.
+fn put_event(w: &mut Writer, take: &[u8; 512], queues: &mut [Queue], t: usize) -> bool
+    requires listed { t < 32 }
+    requires few { length queues.old ≤ 16 }
+    ensures { TookAll take.now t queues.old queues.new result
+        × Writes w.old (event_text (event_in take.now t queues.old)) w.new }
 {
-    let behind = form::put_number_line(&mut *out, at, b"fire=", turn.t as u64);
-    let to = text::put_bytes(&mut *out, behind, b"from=");
-    put_taken(out, to, take, counts, heads, turn)
+    form::put_number_line(w, b"fire=", t as u64);
+    w.put_bytes(b"from=");
+    put_taken(w, take, queues, t)
 }
 
 // The line `left`: all tokens are taken, of which no place has more than 255.
-fn put_left(
-    out: &mut [u8],
-    at: usize,
-    counts: &mut [u8; 1040],
-    heads: &mut [usize; 16],
-    places: usize,
-    top: usize,
-) -> usize
-    requires { Ready counts.old heads.old (record { t = 0; places = places; top = top })
-        × ((p : ℕ) → p < places → oldest 255 (queue_in counts.old top p) ≡ queue_in counts.old top p) }
-    ensures { Puts out.old at
-        (bytes "left=" ++ list_text (map item_text (items_of (queue_in counts.old top) places))) result out.new }
+fn put_left(w: &mut Writer, queues: &mut [Queue])
+    requires few { length queues.old ≤ 16 }
+    requires small { (p : ℕ) → p < length queues.old → oldest 255 (queue_of queues.old p) ≡ queue_of queues.old p }
+    ensures { Writes w.old
+        (bytes "left=" ++ list_text (map item_text (items_of (queue_of queues.old) (length queues.old)))) w.new }
 {
     let all = [255u8; 512];
-    let to = text::put_bytes(&mut *out, at, b"left=");
-    let line = put_taken(out, to, &all, counts, heads, Turn { t: 0, places, top });
-    line.to
+    w.put_bytes(b"left=");
+    put_taken(w, &all, queues, 0);
 }
 
-// Gives so many tokens to each place: the tokens of a new producer. The weights of the places stand one behind the other.
-fn give(counts: &mut [u8; 1040], weights: &[u8], from: usize, places: usize, producer: usize)
-    requires { (places ≤ 16) × (producer < 65) × (length counts.old ≡ 1040) × (from + places ≤ length weights.now) }
-    ensures { Gave counts.old weights.now from places producer counts.new }
+// Gives each place its weight: the tokens of a new producer.
+fn give(queues: &mut [Queue], weights: &[u8])
+    requires weighed { length queues.old ≤ length weights.now }
+    requires room { (p : ℕ) → p < length queues.old → length (queue_of queues.old p) < 65 }
+    ensures { Gave queues.old weights.now queues.new }
 {
-    let mut p: usize = 0;
-    while p < places {
-        counts[65 * p + producer] = weights[from + p];
-        p += 1;
+    for (p, queue) in queues.iter_mut().enumerate() {
+        queue.give(weights[p]);
     }
 }
 
 // The line `free`: each i from 1 whose next firing took nothing of it. `linked` tells of firing i + 1 at i.
-fn put_free(out: &mut [u8], at: usize, linked: &[bool; 64], count: usize) -> usize
-    requires { count ≤ 64 }
-    ensures { Puts out.old at (bytes "free=" ++ list_text (map decimal (unset linked.now 1 (count - 1)))) result out.new }
+fn put_free(w: &mut Writer, linked: &[bool])
+    ensures { Writes w.old (bytes "free=" ++ list_text (map decimal (unset linked.now 1 (length linked.now - 1)))) w.new }
 {
-    let mut to = text::put_bytes(&mut *out, at, b"free=");
+    w.put_bytes(b"free=");
     let mut first = true;
-    let mut i: usize = 1;
-    while i < count {
+    for i in 1..linked.len() {
         if !linked[i] {
-            to = put_comma(&mut *out, to, first);
-            to = text::put_number(&mut *out, to, i as u64);
+            put_comma(w, first);
+            w.put_number(i as u64);
             first = false;
         }
-        i += 1;
     }
-    end_line(out, to, first)
+    end_line(w, first);
 }
 
-// The process of a run's firings written at a position; the position behind it. The tokens must allow the firings.
-pub(crate) fn put_process(out: &mut [u8], at: usize, net: Net, run: Run) -> usize
-    requires { tokens net (order_of (firings_of run)) (start_marking net) 0 ≡ Passed }
-    ensures { Puts out.old at (process_text net (order_of (firings_of run))) result out.new }
+// The lines of the process of a run's firings. The tokens must allow the firings. The run stays a value: of a reference it is not told that it has 64 firings.
+fn put_process_lines(w: &mut Writer, net: &Net, run: Run)
+    requires { tokens net.now (order_of (firings_of run)) (start_marking net.now) 0 ≡ Passed }
+    ensures { Writes w.old (process_text net.now (order_of (firings_of run))) w.new }
 {
-    let places = steps::least(net.places, 16);
-    let count = steps::least(run.count, 64);
-    let mut counts = [0u8; 1040];
-    let mut heads = [0usize; 16];
+    let places = net.places.min(16);
+    let count = run.count.min(64);
+    let mut slots: [Queue; 16] = array::from_fn(|_| Queue::new());
+    let queues = &mut slots[..places];
     let mut linked = [false; 64];
-    give(&mut counts, &net.start, 0, places, 0);
-    let mut to = at;
-    let mut i: usize = 0;
-    while i < count {
-        let t = run.firings[i].fire as usize;
-        let turn = Turn {
-            t,
-            places,
-            top: i + 1,
-        };
-        let line = put_event(&mut *out, to, &net.take, &mut counts, &mut heads, turn);
-        to = line.to;
-        linked[i] = line.newest;
-        i += 1;
-        give(&mut counts, &net.give, 16 * t, places, i);
+    give(&mut *queues, &net.start);
+    for (i, firing) in run.firings[..count].iter().enumerate() {
+        let t = firing.fire as usize;
+        linked[i] = put_event(w, &net.take, &mut *queues, t);
+        give(&mut *queues, &net.give[16 * t..]);
     }
-    to = put_left(&mut *out, to, &mut counts, &mut heads, places, count + 1);
-    put_free(out, to, &linked, count)
+    put_left(w, queues);
+    put_free(w, &linked[..count]);
+}
+
+// The process of a run's firings at the front of an output, as far as it fits, and how many bytes it has where it does. The tokens must allow the firings.
+pub(crate) fn put_process(out: &mut [u8], net: Net, run: Run) -> usize
+    requires { tokens net (order_of (firings_of run)) (start_marking net) 0 ≡ Passed }
+    ensures { Puts out.old 0 (process_text net (order_of (firings_of run))) result out.new }
+{
+    let mut w = Writer::new(out);
+    put_process_lines(&mut w, &net, run);
+    w.at
 }

@@ -1,5 +1,7 @@
 -- Demand 2, first half, over whole runs: the replay accepts exactly the runs that the published semantics allows, ends in the same state, and refuses
 -- exactly at the first firing that is not allowed.
+use Rattle.reply.specs.Respond.{Checked, Passed}
+use Rattle.std.specs.Prelude.{Err}
 use Prim.Native.Nat.{ℕ, suc, ◌+◌, ◌<◌, min}
 use native.Mathlib.Nat.{add-zero}
 use native.Mathlib.Omega.{arith}
@@ -15,8 +17,6 @@ use Rattle.laws.specs.Tests.{all_one, all_fails}
 use Rattle.laws.specs.Arrays.{length_filled, filled_at}
 use Rattle.reply.specs.declared.Refusal.{Refusal}
 use Rattle.reply.specs.declared.Refusal.TheVariants.{NotEnabled, TooManyTokens, OutsideInterval}
-use Rattle.reply.specs.declared.Checked.{Checked}
-use Rattle.reply.specs.declared.Checked.TheVariants.{Passed, Refused}
 use Rattle.net.specs.declared.Net.{Net}
 use Rattle.run.specs.declared.Firing.{Firing}
 use Rattle.run.specs.declared.Run.{Run}
@@ -50,17 +50,17 @@ module _ (net : Net) (D : ℕ) (st : State) (t n : ℕ) where
   late : timely (transition_at net t) D (clock_of st t) ≡ false → OnTime net D (view st) t → ⊥
   late e h = let z : ◌≡◌ {A = Bool} true false = sym ((timely_true (transition_at net t) D (clock_of st t)).1 h) ∙ e in let k : ◌≡◌ {A = ℕ} 0 1 = cc in omega arith
 
-  pub because : Sound st → (r : Refusal) → judged net D st t n ≡ Refused r → Because net D r n (view st) t
+  pub because : Sound st → (r : Refusal) → judged net D st t n ≡ Err r → Because net D r n (view st) t
   unfolding judged_by
   because sound r =
       go (enabled (arcs_of net) st.marking t) (timely (transition_at net t) D (clock_of st t)) (limited (arcs_of net) st.marking t) refl refl refl
     where
-      is : {r' : Refusal} → Refused r' ≡ Refused r → r ≡ r'
+      is : {r' : Refusal} → ◌≡◌ {A = Checked} (Err r') (Err r) → r ≡ r'
       is e = cc
 
       go : (a b c : Bool) → enabled (arcs_of net) st.marking t ≡ a → timely (transition_at net t) D (clock_of st t) ≡ b
           → limited (arcs_of net) st.marking t ≡ c
-          → cond a (cond b (cond c Passed (Refused (TooManyTokens n))) (Refused (OutsideInterval n))) (Refused (NotEnabled n)) ≡ Refused r
+          → cond a (cond b (cond c Passed (Err (TooManyTokens n))) (Err (OutsideInterval n))) (Err (NotEnabled n)) ≡ Err r
           → Because net D r n (view st) t
       go true true true p q s e = let k : ◌≡◌ {A = ℕ} 0 1 = cc in absurd (omega arith)
       go true true false p q s e = inr (inr (is e, p, (timely_true (transition_at net t) D (clock_of st t)).0 q, too_many sound s))
@@ -80,7 +80,7 @@ module _ (net : Net) (D : ℕ) (S : Timed) (st : State) (t n : ℕ) (sound : Sou
   timely_so : enabled (arcs_of net) S.marking t ≡ true → (timely (transition_at net t) D (clock_of st t) ≡ true) ↔ OnTime net D S t
   timely_so on = rw (m.same_clocks t on) (timely_true (transition_at net t) D (clock_of st t))
 
-  pub judged_so : (r : Refusal) → Because net D r n S t → judged net D st t n ≡ Refused r
+  pub judged_so : (r : Refusal) → Because net D r n S t → judged net D st t n ≡ Err r
   unfolding judged_by
   judged_so r (inl (i, off)) =
       let off' : enabled (arcs_of net) st.marking t ≡ false = rw m.same_marking at off in
@@ -121,24 +121,24 @@ module _ (net : Net) (restarts : Restart) (D : ℕ) where
       }
 
   pub play_refused : (fs : List Firing) (st st' : State) (n : ℕ) (r : Refusal) → Sound st
-      → play net restarts D fs st n ≡ record { checked = Refused r; state = st' }
+      → play net restarts D fs st n ≡ record { checked = Err r; state = st' }
       → FirstRefused net restarts D fs (view st) n r
   unfolding play
   play_refused [] st st' n r h =
-      λ e. let k : ◌≡◌ {A = Checked} Passed (Refused r) = ap (λ (p : Played). p.checked) e in let z : ◌≡◌ {A = ℕ} 0 1 = cc in absurd (omega arith)
+      λ e. let k : ◌≡◌ {A = Checked} Passed (Err r) = ap (λ (p : Played). p.checked) e in let z : ◌≡◌ {A = ℕ} 0 1 = cc in absurd (omega arith)
   play_refused (f ∷ fs) st st' n r h =
       let w = waited st f.wait in
       go (judged net D w f.fire (n + 1)) refl
       (play_refused fs (fired net restarts w f.fire) st' (n + 1) r (sound_fired net restarts w f.fire (sound_waited st f.wait h)))
     where
       go : (c : Checked) → judged net D (waited st f.wait) f.fire (n + 1) ≡ c
-          → (play net restarts D fs (fired net restarts (waited st f.wait) f.fire) (n + 1) ≡ record { checked = Refused r; state = st' }
+          → (play net restarts D fs (fired net restarts (waited st f.wait) f.fire) (n + 1) ≡ record { checked = Err r; state = st' }
           → FirstRefused net restarts D fs (view (fired net restarts (waited st f.wait) f.fire)) (n + 1) r)
-          → step_on c st (play net restarts D fs (fired net restarts (waited st f.wait) f.fire) (n + 1)) ≡ record { checked = Refused r; state = st' }
+          → step_on c st (play net restarts D fs (fired net restarts (waited st f.wait) f.fire) (n + 1)) ≡ record { checked = Err r; state = st' }
           → FirstRefused net restarts D (f ∷ fs) (view st) n r
       go Passed p ih e = further f fs st n r h p (ih e)
-      go (Refused r') p ih e =
-          let k : r' ≡ r = let q : ◌≡◌ {A = Checked} (Refused r') (Refused r) = ap (λ (p : Played). p.checked) e in cc in
+      go (Err r') p ih e =
+          let k : r' ≡ r = let q : ◌≡◌ {A = Checked} (Err r') (Err r) = ap (λ (p : Played). p.checked) e in cc in
           let i : n + 1 ≡ n + 0 + 1 = omega arith in
           record {
             front = [];
@@ -150,7 +150,7 @@ module _ (net : Net) (restarts : Restart) (D : ℕ) where
             allowed = none;
             waits = view_elapses net restarts D st f.wait h;
             because = subst (λ (j : ℕ). Because net D r j (view (waited st f.wait)) f.fire) i
-                (because net D (waited st f.wait) f.fire (n + 1) (sound_waited st f.wait h) r (p ∙ ap Refused k));
+                (because net D (waited st f.wait) f.fire (n + 1) (sound_waited st f.wait h) r (p ∙ ap Err k));
           }
 
   -- firings that are allowed are passed, and the rest is played from behind them
@@ -172,17 +172,17 @@ module _ (net : Net) (restarts : Restart) (D : ℕ) where
       go Passed e ih =
           let k : n + 1 + length fs ≡ n + suc (length fs) = omega arith in
           ih e ∙ ap (play net restarts D gs st') k
-      go (Refused r) e ih = absurd (refused_not (ap (λ (p : Played). p.checked) e))
+      go (Err r) e ih = absurd (refused_not (ap (λ (p : Played). p.checked) e))
 
   -- and a refused one ends the play
-  play_stops : (f : Firing) (fs : List Firing) (st : State) (n : ℕ) (r : Refusal) → judged net D (waited st f.wait) f.fire (n + 1) ≡ Refused r
-      → (play net restarts D (f ∷ fs) st n).checked ≡ Refused r
+  play_stops : (f : Firing) (fs : List Firing) (st : State) (n : ℕ) (r : Refusal) → judged net D (waited st f.wait) f.fire (n + 1) ≡ Err r
+      → (play net restarts D (f ∷ fs) st n).checked ≡ Err r
   unfolding play
   play_stops f fs st n r e = rw e refl
 
   -- so what is first refused from a state that matches is what the play refuses
   pub refused_play : Restarting net restarts → (fs : List Firing) (S : Timed) (st : State) (n : ℕ) (r : Refusal) → Sound st → Matches net S st
-      → FirstRefused net restarts D fs S n r → (play net restarts D fs st n).checked ≡ Refused r
+      → FirstRefused net restarts D fs S n r → (play net restarts D fs st n).checked ≡ Err r
   refused_play h fs S st n r sound m x =
       let y = play_complete net restarts D h st n sound m x.allowed in
       let k = n + length x.front in
@@ -320,16 +320,16 @@ module _ (net : Net) (restarts : Restart) (r : Run) where
   accepted_exactly h = played_exactly net restarts r.denominator (firings_of r) r.rest h
 
   -- a refusal names the first firing that is not allowed, and why
-  pub refused_first : (why : Refusal) → (replay net restarts r).checked ≡ Refused why
+  pub refused_first : (why : Refusal) → (replay net restarts r).checked ≡ Err why
       → FirstRefused net restarts r.denominator (firings_of r) (view (start_state net)) 0 why
   unfolding replay
   refused_first why e =
       let p = play net restarts r.denominator (firings_of r) (start_state net) 0 in
-      play_refused net restarts r.denominator (firings_of r) (start_state net) p.state 0 why (start_sound net) (whole p (Refused why) e)
+      play_refused net restarts r.denominator (firings_of r) (start_state net) p.state 0 why (start_sound net) (whole p (Err why) e)
 
   -- from whatever initial state, the run is refused with that exactly when its first firing that is not allowed is so for that reason
   pub refused_exactly : Restarting net restarts → (S : Timed) → Initial net S → (e : Refusal)
-      → ((replay net restarts r).checked ≡ Refused e) ↔ FirstRefused net restarts r.denominator (firings_of r) S 0 e
+      → ((replay net restarts r).checked ≡ Err e) ↔ FirstRefused net restarts r.denominator (firings_of r) S 0 e
   unfolding replay
   refused_exactly h S i e =
       let D = r.denominator in

@@ -1,5 +1,7 @@
 -- The replay and the published semantics agree: a state of the replay stands for the published state with the same marking and, for each enabled
 -- transition, the same clock; a firing that the replay lets pass is one of the semantics, and the other way round.
+use Rattle.reply.specs.Respond.{Checked, Passed}
+use Rattle.std.specs.Prelude.{Err}
 use Prim.Native.Nat.{ℕ, suc, ◌+◌, ◌*◌, ◌≤◌}
 use native.Mathlib.Nat.{mul-suc}
 use native.Mathlib.Omega.{arith}
@@ -10,8 +12,6 @@ use lib.ListN.{length}
 use Rattle.laws.specs.Each.{Each}
 use Rattle.reply.specs.declared.Refusal.{Refusal}
 use Rattle.reply.specs.declared.Refusal.TheVariants.{NotEnabled, OutsideInterval, TooManyTokens}
-use Rattle.reply.specs.declared.Checked.{Checked}
-use Rattle.reply.specs.declared.Checked.TheVariants.{Passed, Refused}
 use Rattle.net.specs.declared.Net.{Net}
 use Rattle.run.specs.declared.Firing.{Firing}
 use Rattle.firing.specs.declared.State.{State}
@@ -27,7 +27,7 @@ pub record Passes (net : Net) (D : ℕ) (st : State) (t : ℕ) : Type 0 where
   pub in_interval : timely (transition_at net t) D (clock_of st t) ≡ true
   pub is_bounded : limited (arcs_of net) st.marking t ≡ true
 
-pub refused_not : {r : Refusal} → Refused r ≡ Passed → ⊥
+pub refused_not : {r : Refusal} → Err r ≡ Passed → ⊥
 refused_not e = let z : ◌≡◌ {A = ℕ} 0 1 = cc in omega arith
 
 module _ (net : Net) (D : ℕ) (st : State) (t n : ℕ) where
@@ -37,7 +37,7 @@ module _ (net : Net) (D : ℕ) (st : State) (t n : ℕ) where
     where
       go : (a b c : Bool) → enabled (arcs_of net) st.marking t ≡ a → timely (transition_at net t) D (clock_of st t) ≡ b
           → limited (arcs_of net) st.marking t ≡ c
-          → cond a (cond b (cond c Passed (Refused (TooManyTokens n))) (Refused (OutsideInterval n))) (Refused (NotEnabled n)) ≡ Passed → Passes net D st t
+          → cond a (cond b (cond c Passed (Err (TooManyTokens n))) (Err (OutsideInterval n))) (Err (NotEnabled n)) ≡ Passed → Passes net D st t
       go true true true p q r e = record { is_enabled = p; in_interval = q; is_bounded = r }
       go true true false p q r e = absurd (refused_not e)
       go true false c p q r e = absurd (refused_not e)
@@ -83,7 +83,7 @@ module _ (net : Net) (restarts : Restart) (D : ℕ) where
     where
       go : (c : Checked) (later : Played) → Sound later.state → Sound (step_on c st later).state
       go Passed later l = l
-      go (Refused r) later l = h
+      go (Err r) later l = h
 
   -- waits of at most W parts each add up to no more than W for each firing
   pub play_soon : (W : ℕ) (fs : List Firing) (st : State) (n : ℕ) → Each (λ f. f.wait ≤ W) fs
@@ -98,7 +98,7 @@ module _ (net : Net) (restarts : Restart) (D : ℕ) where
       go : (c : Checked) (later : Played) → later.state.now ≤ st.now + f.wait + W * length fs
           → (step_on c st later).state.now ≤ st.now + W * suc (length fs)
       go Passed later l = rw (mul-suc W (length fs)) (omega (arith, h.0))
-      go (Refused r) later l = omega arith
+      go (Err r) later l = omega arith
 
   -- ---- what the replay accepts is allowed
   pub play_steps : (fs : List Firing) (st st' : State) (n : ℕ) → Sound st → play net restarts D fs st n ≡ record { checked = Passed; state = st' }
@@ -120,7 +120,7 @@ module _ (net : Net) (restarts : Restart) (D : ℕ) where
           let later = sound_waited st f.wait h in
           let q = passes net D w f.fire (n + 1) p in
           one (view_elapses st f.wait h) (view_fires w f.fire later q) (view_bounded w f.fire later q) (ih e)
-      go (Refused r) p ih e = absurd (refused_not (ap (λ (p : Played). p.checked) e))
+      go (Err r) p ih e = absurd (refused_not (ap (λ (p : Played). p.checked) e))
 
   -- ---- what is allowed the replay accepts, if a transition that was not enabled before a firing restarts there
   pub matches_waited : {S S₁ : Timed} {w : ℕ} (st : State) → Sound st → Matches net S st → Elapses net S w S₁ → Matches net S₁ (waited st w)

@@ -1,4 +1,5 @@
 -- What waiting and firing do to the clocks of a state, which counts each from the instant of its last restart.
+use Rattle.std.specs.Prelude.{None, Option, Some}
 use Prim.Native.Nat.{ℕ, ◌+◌, ◌-◌, ◌*◌, ◌≤◌, ◌<◌}
 use native.Mathlib.Nat.{le_refl, sub_self, min-le_right}
 use native.Mathlib.Omega.{arith}
@@ -12,8 +13,6 @@ use lib.Dec.{leb, ltb}
 use borrow.Author.Tests.{leb-true, le-leb, ltb-true}
 use Rattle.laws.specs.Tests.{all_below, all_at, all_each}
 use Rattle.laws.specs.Arrays.{filled, length_filled, filled_at, filled_past, filled_most}
-use Rattle.net.specs.declared.Latest.{Latest}
-use Rattle.net.specs.declared.Latest.TheVariants.{Unbounded, Ticks}
 use Rattle.net.specs.declared.Transition.{Transition}
 use Rattle.net.specs.declared.Net.{Net}
 use Rattle.firing.specs.declared.State.{State}
@@ -90,9 +89,9 @@ module _ (net : Net) (restarts : Restart) (st : State) (t : ℕ) (h : Sound st) 
       go false = refl
 
 -- ---- the tests of a firing, as the published semantics has them
-not_after_lem : (D : ℕ) (l : Latest) (c : ℕ) → (not_after D l c ≡ true) ↔ NotAfter D l c
-not_after_lem D Unbounded c = (λ e. tt, λ e. refl)
-not_after_lem D (Ticks b) c = (leb-true c (D * b), le-leb c (D * b))
+not_after_lem : (D : ℕ) (l : Option ℕ) (c : ℕ) → (not_after D l c ≡ true) ↔ NotAfter D l c
+not_after_lem D None c = (λ e. tt, λ e. refl)
+not_after_lem D (Some b) c = (leb-true c (D * b), le-leb c (D * b))
 
 pub timely_true : (i : Transition) (D c : ℕ) → (timely i D c ≡ true) ↔ ((D * i.earliest ≤ c) × NotAfter D i.latest c)
 unfolding timely

@@ -1,4 +1,5 @@
 -- A refusal of a run names one of its firings, since it is the firing behind those that are allowed.
+use Rattle.std.specs.Prelude.{Err}
 use Prim.Native.Nat.{ℕ, suc, ◌+◌, ◌≤◌}
 use native.Mathlib.Nat.{min-le_left}
 use native.Mathlib.Omega.{arith}
@@ -7,7 +8,6 @@ use mathlib.Core.Logic.{inl, inr}
 use mathlib.Core.List.{◌∷◌}
 use lib.ListN.{length, length-append}
 use Rattle.reply.specs.declared.Refusal.{Refusal}
-use Rattle.reply.specs.declared.Checked.TheVariants.{Refused}
 use Rattle.reply.specs.Refusal.{position_of}
 use Rattle.net.specs.declared.Net.{Net}
 use Rattle.run.specs.declared.Run.{Run}
@@ -23,7 +23,7 @@ because_place net D r n S t (inl b) = ap position_of b.0
 because_place net D r n S t (inr (inl b)) = ap position_of b.0
 because_place net D r n S t (inr (inr b)) = ap position_of b.0
 
-pub replay_place : (net : Net) (restarts : Restart) (run : Run) (r : Refusal) → (replay net restarts run).checked ≡ Refused r
+pub replay_place : (net : Net) (restarts : Restart) (run : Run) (r : Refusal) → (replay net restarts run).checked ≡ Err r
     → (1 ≤ position_of r) × (position_of r ≤ run.count)
 replay_place net restarts run r e =
     let f = refused_first net restarts run r e in

@@ -1,12 +1,9 @@
 -- The replay of a run, computed: firing by firing 5, then 7, then 6.
-use Rattle.std.specs.Prelude.{ℕ, ◌+◌, ◌-◌, ◌*◌, Bool, true, cond, ◌&&◌, List, [], ◌∷◌, get_or, replicate, leb}
+use Rattle.reply.specs.Respond.{Checked, Passed}
+use Rattle.std.specs.Prelude.{ℕ, ◌+◌, ◌-◌, ◌*◌, Bool, true, cond, ◌&&◌, List, [], ◌∷◌, get_or, replicate, leb, Err, None, Option, Some}
 use Rattle.laws.specs.Tests.{all_below}
 use Rattle.laws.specs.Arrays.{filled}
 use Rattle.reply.specs.declared.Refusal.TheVariants.{NotEnabled, OutsideInterval, TooManyTokens}
-use Rattle.reply.specs.declared.Checked.{Checked}
-use Rattle.reply.specs.declared.Checked.TheVariants.{Passed, Refused}
-use Rattle.net.specs.declared.Latest.{Latest}
-use Rattle.net.specs.declared.Latest.TheVariants.{Unbounded, Ticks}
 use Rattle.net.specs.declared.Transition.{Transition}
 use Rattle.net.specs.declared.Net.{Net}
 use Rattle.run.specs.declared.Firing.{Firing}
@@ -29,9 +26,9 @@ unfoldable pub clock_of : State → ℕ → ℕ
 clock_of st u = st.now - get_or st.since u 0
 
 -- earliest ≤ clock ≤ latest, both ends included; in parts both bounds are taken D times
-abbrev pub not_after : ℕ → Latest → ℕ → Bool
-not_after D Unbounded c = true
-not_after D (Ticks b) c = leb c (D * b)
+abbrev pub not_after : ℕ → Option ℕ → ℕ → Bool
+not_after D None c = true
+not_after D (Some b) c = leb c (D * b)
 
 unfoldable pub timely : Transition → ℕ → ℕ → Bool
 timely t D c = leb (D * t.earliest) c && not_after D t.latest c
@@ -44,8 +41,8 @@ limited a m t = all_below (λ p. leb (get_or m p 0 - takes a t p + gives a t p) 
 unfoldable pub judged_by : Arcs → Transition → ℕ → List ℕ → ℕ → ℕ → ℕ → Checked
 judged_by a interval D m clock t n =
     cond (enabled a m t)
-    (cond (timely interval D clock) (cond (limited a m t) Passed (Refused (TooManyTokens n))) (Refused (OutsideInterval n)))
-    (Refused (NotEnabled n))
+    (cond (timely interval D clock) (cond (limited a m t) Passed (Err (TooManyTokens n))) (Err (OutsideInterval n)))
+    (Err (NotEnabled n))
 
 -- the instants of the last restarts, when t has fired
 unfoldable pub renewed : Arcs → Restart → List ℕ → List ℕ → ℕ → ℕ → List ℕ
@@ -62,7 +59,7 @@ fired net restarts st t =
 -- the firings that are left, from a state in which n have been: the last state, or the first refusal and the state before that firing
 abbrev pub step_on : Checked → State → Played → Played
 step_on Passed st later = later
-step_on (Refused r) st later = record { checked = Refused r; state = st }
+step_on (Err r) st later = record { checked = Err r; state = st }
 
 unfoldable pub play : Net → Restart → ℕ → List Firing → State → ℕ → Played
 play net restarts D [] st n = record { checked = Passed; state = st }

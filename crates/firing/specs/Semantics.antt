@@ -1,10 +1,9 @@
 -- Document 003, definitions 1 and 2: the weak semantics of time Petri nets, with clocks in parts of a tick, D parts to the tick.
 -- Two points are document 01's: no place may hold more than 255 tokens, and the formula for the clocks reads I(u) where the paper's last line misprints I'(u).
+use Rattle.std.specs.Prelude.{None, Option, Some}
 use Rattle.std.specs.Prelude.{ℕ, ◌+◌, ◌-◌, ◌*◌, ◌≤◌, ◌<◌, min, ◌≡◌, Bool, true, false, not, cond, ◌&&◌, ◌||◌, List, [], ◌∷◌, get_or, replicate, leb, ltb, eqb}
 use Rattle.laws.specs.Tests.{all_below}
 use Rattle.laws.specs.Arrays.{filled}
-use Rattle.net.specs.declared.Latest.{Latest}
-use Rattle.net.specs.declared.Latest.TheVariants.{Unbounded, Ticks}
 use Rattle.net.specs.declared.Transition.{Transition}
 use Rattle.net.specs.declared.Net.{Net}
 use Rattle.net.specs.Net.{no_transition, takes_in, gives_in}
@@ -81,9 +80,9 @@ pub record Timed : Type 0 where
   pub clock : ℕ → ℕ
 
 -- c ≤ Lft, in parts
-abbrev pub NotAfter : ℕ → Latest → ℕ → Type 0
-NotAfter D Unbounded c = Unit {0}
-NotAfter D (Ticks b) c = c ≤ D * b
+abbrev pub NotAfter : ℕ → Option ℕ → ℕ → Type 0
+NotAfter D None c = Unit {0}
+NotAfter D (Some b) c = c ≤ D * b
 
 module _ (net : Net) where
   -- the initial state: M₀, and every clock at 0

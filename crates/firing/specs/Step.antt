@@ -1,7 +1,6 @@
 -- One step of a run: a firing that is tried is judged and, if it is allowed, fired. A refused step changes nothing.
-use Rattle.std.specs.Prelude.{ℕ, ◌-◌, List, get_or}
-use Rattle.reply.specs.declared.Checked.{Checked}
-use Rattle.reply.specs.declared.Checked.TheVariants.{Passed, Refused}
+use Rattle.reply.specs.Respond.{Checked, Passed}
+use Rattle.std.specs.Prelude.{ℕ, ◌-◌, List, get_or, Err}
 use Rattle.firing.specs.declared.Attempt.{Attempt}
 use Rattle.firing.specs.Semantics.{Arcs, Restart, after}
 use Rattle.firing.specs.Replay.{judged_by, renewed}
@@ -14,7 +13,7 @@ pub record Stepped : Type 0 where
 
 abbrev pub settled : Checked → List ℕ → List ℕ → List ℕ → List ℕ → Stepped
 settled Passed m since m' since' = record { checked = Passed; marking = m'; since = since' }
-settled (Refused r) m since m' since' = record { checked = Refused r; marking = m; since = since }
+settled (Err r) m since m' since' = record { checked = Err r; marking = m; since = since }
 
 unfoldable pub stepped : Arcs → Restart → ℕ → Attempt → List ℕ → List ℕ → Stepped
 stepped a restarts D f m since =

@@ -1,8 +1,7 @@
 -- Document 01, "Windows and instants": what the tokens allow of a firing order, whatever the time.
-use Rattle.std.specs.Prelude.{ℕ, ◌+◌, cond, List, [], ◌∷◌}
+use Rattle.reply.specs.Respond.{Checked, Passed}
+use Rattle.std.specs.Prelude.{ℕ, ◌+◌, cond, List, [], ◌∷◌, Err}
 use Rattle.reply.specs.declared.Refusal.TheVariants.{NotEnabled, TooManyTokens}
-use Rattle.reply.specs.declared.Checked.{Checked}
-use Rattle.reply.specs.declared.Checked.TheVariants.{Passed, Refused}
 use Rattle.form.specs.Form.{also}
 use Rattle.net.specs.declared.Net.{Net}
 use Rattle.firing.specs.Semantics.{arcs_of, enabled, after}
@@ -10,7 +9,7 @@ use Rattle.firing.specs.Replay.{limited}
 
 -- firing number n, of t, judged by its tokens alone: 5, then 6
 unfoldable pub tokens_judged : Net → List ℕ → ℕ → ℕ → Checked
-tokens_judged net m t n = cond (enabled (arcs_of net) m t) (cond (limited (arcs_of net) m t) Passed (Refused (TooManyTokens n))) (Refused (NotEnabled n))
+tokens_judged net m t n = cond (enabled (arcs_of net) m t) (cond (limited (arcs_of net) m t) Passed (Err (TooManyTokens n))) (Err (NotEnabled n))
 
 -- the tokens allow an order if each firing in turn finds its transition enabled and leaves no place above 255; n firings have been
 unfoldable pub tokens : Net → List ℕ → List ℕ → ℕ → Checked

@@ -2,7 +2,7 @@
 #![tactic(auto)]
 
 use net::Transition;
-use reply::Checked;
+use reply::Refusal;
 
 // The tokens of each place, the instant at which each transition's clock last restarted, and the present instant, in parts of a tick.
 #[derive(Clone, Copy)]
@@ -12,10 +12,10 @@ pub struct State {
     pub now: u64,
 }
 
-// What a run came to: whether every firing was allowed, and the state.
+// What a run came to: whether every firing was allowed, and the state, which stands beside a refusal too, as that before the refused firing.
 #[derive(Clone, Copy)]
 pub struct Played {
-    pub checked: Checked,
+    pub checked: Result<(), Refusal>,
     pub state: State,
 }
 

@@ -1,9 +1,10 @@
 -- What a reader of this crate returned, as what its form finds: the two cases of `Found` are told by the two variants of each answer; what two
 -- forms in a row found, by parts. And what is replied with a text that was written.
+use Rattle.std.specs.Prelude.{Err, Ok}
 use Prim.Native.Nat.{ℕ, ◌+◌, ◌*◌}
 use native.Mathlib.Nat.{mul-suc}
 use native.Mathlib.Omega.{arith}
-use mathlib.Core.Path.{◌≡◌, ap, ◌∙◌}
+use mathlib.Core.Path.{◌≡◌, refl, ap, ◌∙◌}
 use mathlib.Core.Bool.{true, false}
 use mathlib.Core.List.{List, [], ◌∷◌}
 use lib.ListN.{length, take, drop}
@@ -11,35 +12,11 @@ use Rattle.laws.specs.Writing.{front_text, Wrote}
 use Rattle.laws.specs.Slots.{first_of, length_first}
 use Rattle.reply.specs.declared.Refusal.{Refusal}
 use Rattle.reply.specs.declared.Refusal.TheVariants.{Malformed}
-use Rattle.reply.specs.declared.Checked.{Checked}
-use Rattle.reply.specs.declared.Checked.TheVariants.{Passed}
-use Rattle.reply.specs.declared.Reply.{Reply}
-use Rattle.reply.specs.Respond.{answer, written_if, Responded}
+use Rattle.reply.specs.Respond.{answer, written_if, Responded, Checked, Passed, Reply}
 use Rattle.text.specs.Key.{begins_with}
-use Rattle.form.specs.declared.NumberLine.TheVariants.{Value, Refused}
-use Rattle.form.specs.declared.LineRead.{LineRead}
-use Rattle.form.specs.declared.LineRead.TheVariants.{Next, Stopped}
+use Rattle.form.specs.Code.{value_read}
 use Rattle.form.specs.Form.{Found, found, refused, Form, keyed, chain, lines_of, exactly}
-use Rattle.form.specs.Code.{number_line, line_read, value_or}
 use Rattle.form.proofs.Found.{found_value, found_place, then_found}
-
--- a line's number
-pub number_found : (f : Found ℕ) {v next : ℕ} → number_line f ≡ Value v next → f ≡ found v next
-number_found (found n to) e = cc
-number_found (refused r) e = cc
-
-pub number_refused : (f : Found ℕ) {r : Refusal} → number_line f ≡ Refused r → f ≡ refused r
-number_refused (found n to) e = cc
-number_refused (refused r) e = cc
-
--- where reading went on, and the value beside that
-pub line_found : {A : Type 0} (f : Found A) (d a : A) (read : LineRead) {next : ℕ} → read ≡ line_read f → a ≡ value_or d f → read ≡ Next next → f ≡ found a next
-line_found (found b to) d a read p v e = cc
-line_found (refused r) d a read p v e = cc
-
-pub line_stopped : {A : Type 0} (f : Found A) (read : LineRead) {r : Refusal} → read ≡ line_read f → read ≡ Stopped r → f ≡ refused r
-line_stopped (found b to) read p e = cc
-line_stopped (refused r) read p e = cc
 
 -- a key in front
 module _ {A : Type 0} (key : List ℕ) (f : Form A) (s : List ℕ) (at line : ℕ) where
@@ -85,3 +62,12 @@ pub card_answered : {c : Checked} {text s : List ℕ} {r : Reply} {out buffer ca
     → Responded (answer (take n card)) s r out
     → Responded (written_if c text) s r out
 card_answered p w v = rw p (text_answered w v)
+
+-- what was read without the position
+pub was_refused : {A : Type 0} {f : Found A} {r : Refusal} → value_read f ≡ Err r → f ≡ refused r
+was_refused {f = found a next} e = let z : ◌≡◌ {A = ℕ} 0 1 = cc in absurd (omega arith)
+was_refused {f = refused q} {r} e = let same : q ≡ r = cc in rw same refl
+
+pub was_found : {A : Type 0} {f : Found A} {a : A} → value_read f ≡ Ok a → (next : ℕ) × (f ≡ found a next)
+was_found {f = found b next} {a} e = let same : b ≡ a = cc in (next, rw same refl)
+was_found {f = refused q} e = let z : ◌≡◌ {A = ℕ} 0 1 = cc in absurd (omega arith)

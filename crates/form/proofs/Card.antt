@@ -1,5 +1,6 @@
 -- A card is a form read from the front of an input, and its first line is line 1. What is written is read back, what was read and is written
 -- again gives the same bytes, and a value passes the check exactly when its text is read as that value.
+use Rattle.reply.specs.Respond.{Passed}
 use Prim.Native.Nat.{ℕ, ◌+◌, ◌≤◌, ◌<◌}
 use native.Mathlib.Nat.{zero-add, le_refl}
 use native.Mathlib.Omega.{arith}
@@ -12,7 +13,6 @@ use lib.Seq.{take_all}
 use lib.Dec.{leb}
 use borrow.Author.Tests.{leb-true, leb-false, le-leb, lt-leb}
 use Rattle.reply.specs.declared.Refusal.{Refusal}
-use Rattle.reply.specs.declared.Checked.TheVariants.{Passed}
 use Rattle.form.specs.Form.{found, refused, Form, alone}
 use Rattle.form.specs.Inverse.{Inverse, Settled, Reaches}
 use Rattle.form.proofs.Found.{not_both, found_place, then_found, then_same}

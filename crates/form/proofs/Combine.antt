@@ -1,4 +1,5 @@
 -- The ways to put forms together keep what makes a form a format: each part is read back from its own place, and the places follow one another.
+use Rattle.reply.specs.Respond.{Passed}
 use Prim.Native.Nat.{ℕ, zero, suc, ◌+◌, ◌*◌, ◌≤◌}
 use native.Mathlib.Nat.{add-zero}
 use native.Mathlib.Omega.{arith}
@@ -9,7 +10,6 @@ use lib.ListN.{length, take, drop, length-map}
 use Rattle.laws.specs.Slots.{first_of, pad_to, length_first, first_pad}
 use Rattle.laws.specs.Writing.{first_there, second_there, both_there, both_long}
 use Rattle.reply.specs.declared.Refusal.TheVariants.{Malformed}
-use Rattle.reply.specs.declared.Checked.TheVariants.{Passed}
 use Rattle.text.specs.Key.{begins_with}
 use Rattle.text.proofs.KeyLaws.{begins_text, begins_split, begins_take}
 use Rattle.form.specs.Form.{found, refused, Form, keyed, chain, texts, lines_of, checks, reads, exactly, held}

@@ -1,12 +1,11 @@
 -- One law for each way to put forms together: all that makes a form a format is kept, and the reach and the lines of the parts add up.
+use Rattle.reply.specs.Respond.{Checked, Passed}
 use Prim.Native.Nat.{ℕ, ◌+◌, ◌*◌, ◌^◌, ◌≤◌, ◌<◌, min}
 use native.Mathlib.Nat.{mul-le-mul_right, min-le_right}
 use native.Mathlib.Omega.{arith}
 use mathlib.Core.Path.{◌≡◌, refl}
 use mathlib.Core.List.{List}
 use lib.ListN.{length}
-use Rattle.reply.specs.declared.Checked.{Checked}
-use Rattle.reply.specs.declared.Checked.TheVariants.{Passed}
 use Rattle.form.specs.Form.{Form, keyed, chain, times, held}
 use Rattle.form.specs.Line.{ranged, listed, number, items}
 use Rattle.form.specs.Inverse.{Format}

@@ -1,13 +1,14 @@
 -- What a reading that found something, or a check that passed, says of its parts: a refusal of any part would be the refusal of the whole.
+use Rattle.reply.specs.Respond.{Checked, Passed}
+use Rattle.std.specs.Prelude.{Err}
 use Prim.Native.Nat.{ℕ, ◌+◌}
 use native.Mathlib.Omega.{arith}
 use mathlib.Core.Path.{◌≡◌, refl, ap}
 use mathlib.Core.Bool.{Bool, true, false, cond}
 use mathlib.Core.List.{List, [], ◌∷◌}
 use Rattle.laws.specs.Each.{Each}
+use Rattle.laws.specs.Pairs.{ok_parts}
 use Rattle.reply.specs.declared.Refusal.{Refusal}
-use Rattle.reply.specs.declared.Checked.{Checked}
-use Rattle.reply.specs.declared.Checked.TheVariants.{Passed, Refused}
 use Rattle.form.specs.Form.{Found, found, refused, and_then, found_if, also, Form, checks}
 
 -- the values that a reading in two steps went through
@@ -51,28 +52,28 @@ then_then (found a next) f g = refl
 then_then (refused r) f g = refl
 
 pub found_value : {A : Type 0} {a b : A} {next end : ℕ} → found a next ≡ found b end → a ≡ b
-found_value e = cc
+found_value e = (ok_parts e).0
 
 pub found_place : {A : Type 0} {a b : A} {next end : ℕ} → found a next ≡ found b end → next ≡ end
-found_place e = cc
+found_place e = (ok_parts e).1
 
 pub also_first : (c c' : Checked) → also c c' ≡ Passed → c ≡ Passed
 also_first Passed c' e = refl
-also_first (Refused r) c' e = e
+also_first (Err r) c' e = e
 
 pub also_second : (c c' : Checked) → also c c' ≡ Passed → c' ≡ Passed
 also_second Passed c' e = e
-also_second (Refused r) c' e = cc
+also_second (Err r) c' e = cc
 
 -- three checks, grouped either way
 -- two checks that refuse: the first does, or it passes and the second does
-pub also_refused : {P : Type 0} {r : Refusal} (c c' : Checked) → (c ≡ Refused r → P) → (c ≡ Passed → c' ≡ Refused r → P) → also c c' ≡ Refused r → P
+pub also_refused : {P : Type 0} {r : Refusal} (c c' : Checked) → (c ≡ Err r → P) → (c ≡ Passed → c' ≡ Err r → P) → also c c' ≡ Err r → P
 also_refused Passed c' first then e = then refl e
-also_refused (Refused q) c' first then e = first e
+also_refused (Err q) c' first then e = first e
 
 pub also_also : (a b c : Checked) → also a (also b c) ≡ also (also a b) c
 also_also Passed b c = refl
-also_also (Refused r) b c = refl
+also_also (Err r) b c = refl
 
 -- a fact that each part has which passes
 pub checks_each : {A : Type 0} (f : Form A) (P : A → Type 0) → ((a : A) (line : ℕ) → f.check a line ≡ Passed → P a)
@@ -86,38 +87,38 @@ checks_each f P h (a ∷ l) line e =
 
 pub judged_passed : {A : Type 0} (c : Checked) (a : A) (next : ℕ) {b : A} {end : ℕ} → found_if c a next ≡ found b end → c ≡ Passed
 judged_passed Passed a next e = refl
-judged_passed (Refused r) a next e = absurd (not_both e)
+judged_passed (Err r) a next e = absurd (not_both e)
 
 pub judged_found : {A : Type 0} (c : Checked) (a : A) (next : ℕ) {b : A} {end : ℕ} → found_if c a next ≡ found b end → found a next ≡ found b end
 judged_found Passed a next e = e
-judged_found (Refused r) a next e = absurd (not_both e)
+judged_found (Err r) a next e = absurd (not_both e)
 
 -- a test that decides a check
-pub test_passed : (t : Bool) (r : Refusal) → cond t Passed (Refused r) ≡ Passed → t ≡ true
+pub test_passed : (t : Bool) (r : Refusal) → cond t Passed (Err r) ≡ Passed → t ≡ true
 test_passed true r e = refl
 test_passed false r e = cc
 
-pub test_refused : (t : Bool) (r : Refusal) {q : Refusal} → cond t Passed (Refused r) ≡ Refused q → r ≡ q
+pub test_refused : (t : Bool) (r : Refusal) {q : Refusal} → cond t Passed (Err r) ≡ Err q → r ≡ q
 test_refused true r e = let z : ◌≡◌ {A = ℕ} 0 1 = cc in absurd (omega arith)
 test_refused false r e = cc
 
-pub judged_refused : {A : Type 0} (c : Checked) (a : A) (next : ℕ) {r : Refusal} → found_if c a next ≡ refused r → c ≡ Refused r
+pub judged_refused : {A : Type 0} (c : Checked) (a : A) (next : ℕ) {r : Refusal} → found_if c a next ≡ refused r → c ≡ Err r
 judged_refused Passed a next e = let z : ◌≡◌ {A = ℕ} 0 1 = cc in absurd (omega arith)
-judged_refused (Refused q) a next e = cc
+judged_refused (Err q) a next e = cc
 
 -- a reading that goes on where a check passes, to a second check: the first refusal counts
 pub judged_then : {A B : Type 0} (c c' : Checked) (a : A) (next : ℕ) (b : B) (end : ℕ) (more : A → ℕ → Found B)
     → (c ≡ Passed → more a next ≡ found_if c' b end) → and_then (found_if c a next) more ≡ found_if (also c c') b end
 judged_then Passed c' a next b end more h = h refl
-judged_then (Refused r) c' a next b end more h = refl
+judged_then (Err r) c' a next b end more h = refl
 
 -- or to no check
 pub judged_more : {A B : Type 0} (c : Checked) (a : A) (next : ℕ) (b : B) (end : ℕ) (more : A → ℕ → Found B) → (c ≡ Passed → more a next ≡ found b end)
     → and_then (found_if c a next) more ≡ found_if c b end
 judged_more Passed a next b end more h = h refl
-judged_more (Refused r) a next b end more h = refl
+judged_more (Err r) a next b end more h = refl
 
 -- what stands there counts only where the check passes
 pub judged_same : {A : Type 0} (c : Checked) (a b : A) (next end : ℕ) → (c ≡ Passed → found a next ≡ found b end) → found_if c a next ≡ found_if c b end
 judged_same Passed a b next end h = h refl
-judged_same (Refused r) a b next end h = refl
+judged_same (Err r) a b next end h = refl

@@ -1,4 +1,6 @@
 -- A line's numbers are read back: each stands in its own field, and a number that passes the check is one that a card can write.
+use Rattle.reply.specs.Respond.{Checked, Passed}
+use Rattle.std.specs.Prelude.{None, Option, Some}
 use Prim.Native.Nat.{ℕ, zero, suc, ◌+◌, ◌*◌, ◌^◌, ◌≤◌, ◌<◌}
 use native.Mathlib.Nat.{add-zero}
 use native.Mathlib.Omega.{arith}
@@ -12,10 +14,6 @@ use Rattle.laws.specs.Each.{Each}
 use Rattle.laws.specs.Slots.{first_of, pad_to, length_first, first_pad}
 use Rattle.laws.specs.Writing.{first_there, second_there, both_there, both_long}
 use Rattle.reply.specs.declared.Refusal.TheVariants.{OutOfRange, NoSuchTransition}
-use Rattle.reply.specs.declared.Checked.{Checked}
-use Rattle.reply.specs.declared.Checked.TheVariants.{Passed}
-use Rattle.text.specs.declared.NumberRead.{NumberRead}
-use Rattle.text.specs.declared.NumberRead.TheVariants.{Value, NoNumber}
 use Rattle.text.specs.Key.{begins_with}
 use Rattle.text.specs.Number.{field_at}
 use Rattle.text.specs.Decimal.{field}
@@ -27,9 +25,9 @@ use Rattle.form.specs.Inverse.{WasRead, Inverse, Settled, Reaches}
 use Rattle.form.proofs.Found.{not_both, found_value, found_place, then_found, then_same, judged_passed, judged_found, test_passed}
 use Rattle.form.proofs.Combine.{was_same, keyed_inverse}
 
-pub formed_value : (line : ℕ) (r : NumberRead) {n next : ℕ} → formed line r ≡ found n next → r ≡ Value n next
-formed_value line (Value m end) e = cc
-formed_value line NoNumber e = absurd (not_both e)
+pub formed_value : (line : ℕ) (r : Option (ℕ × ℕ)) {n next : ℕ} → formed line r ≡ found n next → r ≡ Some (n, next)
+formed_value line (Some (m, end)) e = cc
+formed_value line None e = absurd (not_both e)
 
 -- a number that passes its check lies in its range
 pub ranged_within : (low high n line : ℕ) → ranged low high n line ≡ Passed → (low ≤ n) × (n ≤ high)
@@ -44,7 +42,7 @@ pub listed_small : (transitions : ℕ) → transitions < 10 ^ 9 → (n line : �
 listed_small transitions h n line e = omega (arith, ltb-true n transitions (test_passed (ltb n transitions) (NoSuchTransition line) e))
 
 module _ (judge : ℕ → ℕ → Checked) where
-  number_was : (n : ℕ) (s : List ℕ) (at next line : ℕ) → field_at s at true ≡ Value n next → judge n line ≡ Passed → WasRead (number judge) n s at next line
+  number_was : (n : ℕ) (s : List ℕ) (at next line : ℕ) → field_at s at true ≡ Some (n, next) → judge n line ≡ Passed → WasRead (number judge) n s at next line
   number_was n s at next line e p =
       let w = field_split n at next true s e in
       record { bytes = w.text; end = w.end; passed = p; cleaned = refl }
@@ -82,7 +80,7 @@ pub record ItemsThere (k : ℕ) (ns s : List ℕ) (at next : ℕ) : Type 0 where
 items_same : (k : ℕ) {ns ms s : List ℕ} {at next end : ℕ} → found ns next ≡ found ms end → ItemsThere k ns s at next → ItemsThere k ms s at end
 items_same k e w = rw (← found_value e, ← found_place e) w
 
-items_more : (k n : ℕ) (ns s : List ℕ) (at next end : ℕ) → field_at s at (eqb k 0) ≡ Value n next → ItemsThere k ns s next end
+items_more : (k n : ℕ) (ns s : List ℕ) (at next end : ℕ) → field_at s at (eqb k 0) ≡ Some (n, next) → ItemsThere k ns s next end
     → ItemsThere (suc k) (n ∷ ns) s at end
 unfolding items_text
 items_more k n ns s at next end e w =

@@ -1,4 +1,6 @@
 -- A loop over n parts in an array: what the whole comes to is what is left comes to, with what was read, checked or written so far.
+use Rattle.reply.specs.Respond.{Passed}
+use Rattle.std.specs.Prelude.{Err}
 use Prim.Native.Nat.{ℕ, suc, ◌+◌, ◌-◌, ◌≤◌, ◌<◌, zero-le}
 use native.Mathlib.Nat.{sub-zero}
 use native.Mathlib.Numerals.{add-one}
@@ -10,7 +12,6 @@ use lib.Seq.{append_snoc, take-suc-set, drop-set-lt, drop-drop, length-take-le}
 use Rattle.laws.specs.Writing.{joined, joined_whole}
 use Rattle.laws.specs.Slots.{first_next, first_of, pad_to, length_first}
 use Rattle.reply.specs.declared.Refusal.{Refusal}
-use Rattle.reply.specs.declared.Checked.TheVariants.{Passed, Refused}
 use Rattle.form.specs.Form.{found, refused, and_then, also, Form, texts, checks, reads, exactly}
 use Rattle.form.proofs.Found.{then_same, then_nothing, then_then}
 
@@ -90,7 +91,7 @@ module _ {A : Type 0} {f : Form A} {n : ℕ} {d : A} {l : List A} {line i q : �
   pub checking_more : i < n → f.check (get_or l i d) q ≡ Passed → Checking f n d l line (i + 1) (q + f.lines (get_or l i d))
   checking_more h e = record { within = omega arith; rest = check_next h ∙ rw e refl }
 
-  pub checking_refused : i < n → {r : Refusal} → f.check (get_or l i d) q ≡ Refused r → checks f (first_of n d l) line ≡ Refused r
+  pub checking_refused : i < n → {r : Refusal} → f.check (get_or l i d) q ≡ Err r → checks f (first_of n d l) line ≡ Err r
   checking_refused h e = check_next h ∙ rw e refl
 
   pub checking_done : n ≤ i → checks f (first_of n d l) line ≡ Passed

@@ -1,5 +1,7 @@
 -- A line with one number, by the cases of the code: whether the number has its form, and what its check says. A number is in its range
 -- where neither end is passed.
+use Rattle.reply.specs.Respond.{Checked, Passed}
+use Rattle.std.specs.Prelude.{Err, None, Ok}
 use Prim.Native.Nat.{ℕ, ◌+◌, ◌≤◌, ◌<◌}
 use mathlib.Core.Bool.{Bool, true, false, cond, ◌&&◌, and-false}
 use mathlib.Core.List.{List}
@@ -9,17 +11,11 @@ use lib.ListN.{length, drop}
 use borrow.Author.Tests.{le-leb, lt-leb}
 use Rattle.reply.specs.declared.Refusal.{Refusal}
 use Rattle.reply.specs.declared.Refusal.TheVariants.{Malformed}
-use Rattle.reply.specs.declared.Checked.{Checked}
-use Rattle.reply.specs.declared.Checked.TheVariants.{Passed}
-use Rattle.reply.specs.declared.Checked.TheVariants as checked
-use Rattle.text.specs.declared.NumberRead.TheVariants.{NoNumber}
-use Rattle.text.specs.declared.NumberRead.TheVariants as read
 use Rattle.text.specs.Key.{begins_with}
 use Rattle.text.specs.Number.{field_at}
-use Rattle.form.specs.declared.NumberLine.TheVariants.{Value, Refused}
-use Rattle.form.specs.Form.{Found, refused, and_then, found_if, keyed}
+use Rattle.form.specs.Form.{Found, found, refused, and_then, found_if, keyed}
 use Rattle.form.specs.Line.{formed, number}
-use Rattle.form.specs.Code.{number_line, keyed_field}
+use Rattle.form.specs.Code.{keyed_field}
 
 -- ---- a number against its range
 module _ (low high n : ℕ) where
@@ -43,17 +39,17 @@ module _ (judge : ℕ → ℕ → Checked) (key s : List ℕ) (at line : ℕ) wh
     where
       go : (t : Bool) →
           cond t ((number judge).read s (at + length key) line) (refused (Malformed line)) ≡
-          and_then (formed line (cond t (field_at s (at + length key) true) NoNumber)) (λ n next. found_if (judge n line) n next)
+          and_then (formed line (cond t (field_at s (at + length key) true) None)) (λ n next. found_if (judge n line) n next)
       go true = refl
       go false = refl
 
-  pub line_none : keyed_field key s at ≡ NoNumber → Refused (Malformed line) ≡ number_line ((keyed key (number judge)).read s at line)
-  line_none e = rw (line_read_lem, e) refl
+  pub line_none : (r : Refusal) → formed line (keyed_field key s at) ≡ Err r → refused r ≡ (keyed key (number judge)).read s at line
+  line_none r e = rw (line_read_lem, e) refl
 
-  pub line_refused : (n next : ℕ) (r : Refusal) → keyed_field key s at ≡ read.Value n next → judge n line ≡ checked.Refused r
-      → Refused r ≡ number_line ((keyed key (number judge)).read s at line)
+  pub line_refused : (n next : ℕ) (r : Refusal) → formed line (keyed_field key s at) ≡ Ok (n, next) → judge n line ≡ Err r
+      → refused r ≡ (keyed key (number judge)).read s at line
   line_refused n next r e j = rw (line_read_lem, e, j) refl
 
-  pub line_passed : (n next : ℕ) → keyed_field key s at ≡ read.Value n next → judge n line ≡ Passed
-      → Value n next ≡ number_line ((keyed key (number judge)).read s at line)
+  pub line_passed : (n next : ℕ) → formed line (keyed_field key s at) ≡ Ok (n, next) → judge n line ≡ Passed
+      → found n next ≡ (keyed key (number judge)).read s at line
   line_passed n next e j = rw (line_read_lem, e, j) refl

@@ -1,4 +1,6 @@
 -- A refusal names a line of what was read: a line refuses itself, and behind lines that were read the next line is numbered by how many these were.
+use Rattle.reply.specs.Respond.{Checked}
+use Rattle.std.specs.Prelude.{Err, None, Option, Some}
 use Prim.Native.Nat.{ℕ, zero, suc, ◌+◌, ◌*◌, ◌≤◌}
 use native.Mathlib.Omega.{arith}
 use mathlib.Core.Path.{◌≡◌, refl, sym, ap}
@@ -9,11 +11,7 @@ use lib.Dec.{leb, ltb, eqb}
 use Rattle.laws.specs.Slots.{pad_to, first_pad}
 use Rattle.reply.specs.declared.Refusal.{Refusal}
 use Rattle.reply.specs.declared.Refusal.TheVariants.{Malformed, OutOfRange, NoSuchTransition}
-use Rattle.reply.specs.declared.Checked.{Checked}
-use Rattle.reply.specs.declared.Checked.TheVariants.{Refused}
 use Rattle.reply.specs.Refusal.{position_of}
-use Rattle.text.specs.declared.NumberRead.{NumberRead}
-use Rattle.text.specs.declared.NumberRead.TheVariants.{Value, NoNumber}
 use Rattle.text.specs.Key.{begins_with}
 use Rattle.text.specs.Number.{field_at}
 use Rattle.form.specs.Form.{found, refused, and_then, found_if, Form, keyed, chain, lines_of, reads, exactly, held, alone}
@@ -47,13 +45,13 @@ line_placed own one =
       few = λ a s at next line e. omega (arith, one a);
     }
 
-formed_own : (line : ℕ) (n : NumberRead) {r : Refusal} → formed line n ≡ refused r → position_of r ≡ line
-formed_own line (Value n next) e = absurd (not_both (sym e))
-formed_own line NoNumber e = ap position_of (sym (refused_same e))
+formed_own : (line : ℕ) (n : Option (ℕ × ℕ)) {r : Refusal} → formed line n ≡ refused r → position_of r ≡ line
+formed_own line (Some (n, next)) e = absurd (not_both (sym e))
+formed_own line None e = ap position_of (sym (refused_same e))
 
 -- a check that refuses the line it is given
 abbrev pub OwnLine : {A : Type 0} → (A → ℕ → Checked) → Type 0
-OwnLine {A} judge = (a : A) (line : ℕ) (r : Refusal) → judge a line ≡ Refused r → position_of r ≡ line
+OwnLine {A} judge = (a : A) (line : ℕ) (r : Refusal) → judge a line ≡ Err r → position_of r ≡ line
 
 pub ranged_own : (low high : ℕ) → OwnLine (ranged low high)
 ranged_own low high n line r e = ap position_of (sym (test_refused (leb low n && leb n high) (OutOfRange line) e))
@@ -62,7 +60,7 @@ pub listed_own : (transitions : ℕ) → OwnLine (listed transitions)
 listed_own transitions n line r e = ap position_of (sym (test_refused (ltb n transitions) (NoSuchTransition line) e))
 
 -- a number of the line, and what is found of it
-pub field_own : {A : Type 0} (judge : A → ℕ → Checked) (to : ℕ → A) → OwnLine judge → (line : ℕ) (n : NumberRead) {r : Refusal}
+pub field_own : {A : Type 0} (judge : A → ℕ → Checked) (to : ℕ → A) → OwnLine judge → (line : ℕ) (n : Option (ℕ × ℕ)) {r : Refusal}
     → and_then (formed line n) (λ m next. found_if (judge (to m) line) (to m) next) ≡ refused r → position_of r ≡ line
 field_own judge to own line n {r} =
     then_refused (formed line n) (λ m next. found_if (judge (to m) line) (to m) next) (formed_own line n)

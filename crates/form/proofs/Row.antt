@@ -1,5 +1,7 @@
 -- Cards in a row: how much of an input their reading looks at, what a reading that found something says of the cards, what a refusal is of, how values are told
 -- by their cards, what is refused behind a card that passes; and the reading in steps, card by card.
+use Rattle.reply.specs.Respond.{Checked, Passed}
+use Rattle.std.specs.Prelude.{Err, Ok}
 use Prim.Native.Nat.{ℕ, ◌+◌, ◌-◌, ◌≤◌, ◌<◌}
 use native.Mathlib.Nat.{zero-add}
 use native.Mathlib.Omega.{arith}
@@ -9,11 +11,8 @@ use lib.ListN.{length, take, drop}
 use lib.Seq.{drop-append_seam}
 use Rattle.laws.specs.Writing.{drop_take}
 use Rattle.reply.specs.declared.Refusal.{Refusal}
-use Rattle.reply.specs.declared.Checked.{Checked}
-use Rattle.reply.specs.declared.Checked.TheVariants.{Passed}
-use Rattle.form.specs.declared.LineRead.{LineRead}
-use Rattle.form.specs.Form.{Found, found, refused, and_then, found_if, also, Form, front, alone, follow}
-use Rattle.form.specs.Code.{line_read, value_or, behind}
+use Rattle.form.specs.Code.{value_read}
+use Rattle.form.specs.Form.{Found, found, refused, found_if, also, Form, front, alone, follow}
 use Rattle.form.specs.Inverse.{Inverse, Reaches, Told}
 use Rattle.form.proofs.Found.{not_both, found_value, found_place, then_found, then_refused, then_same, judged_then, judged_more}
 use Rattle.form.proofs.Card.{alone_found, alone_prefix}
@@ -99,26 +98,10 @@ row_behind {f = f} i then a u p h =
     let t = f.text a in
     rw (i.read_written a (t ++ u) u 0 1 p refl, zero-add (length t), drop-append_seam t u, h) refl
 
--- ---- the same reading in steps
-module _ {A B : Type 0} (first : List ℕ → Found A) (then : A → List ℕ → Found B) (s : List ℕ) (d : A) where
-  -- from what the first says
-  abbrev row : Found A → Found (A × B)
-  row f = and_then f (λ a next. and_then (then a (drop next s)) (λ b end. found (a, b) (next + end)))
+-- ---- two cards that were read one behind the other, by their values
+module _ {A B : Type 0} (first : List ℕ → Found A) (then : A → List ℕ → Found B) (s : List ℕ) {a : A} {next : ℕ} (e : first s ≡ found a next) where
+  pub both_read : {b : B} {end : ℕ} → then a (drop next s) ≡ found b end → Ok (a, b) ≡ value_read (follow first then s)
+  both_read e' = rw (e, e') refl
 
-  stopped : (f : Found A) {r : Refusal} → behind (then (value_or d f)) s (line_read f) ≡ refused r → row f ≡ refused r
-  stopped (found a next) e = rw e refl
-  stopped (refused q) e = cc
-
-  there : (f : Found A) {b : B} {end : ℕ} → behind (then (value_or d f)) s (line_read f) ≡ found b end → (next : ℕ) × (row f ≡ found (value_or d f, b) next)
-  there (found a next) {b} {end} e = (next + end, rw e refl)
-  there (refused q) e = (0, cc)
-
-  module _ {read : LineRead} {a : A} (p : read ≡ line_read (first s)) (q : a ≡ value_or d (first s)) where
-    same : behind (then a) s read ≡ behind (then (value_or d (first s))) s (line_read (first s))
-    same = rw (p, q) refl
-
-    pub behind_stopped : {r : Refusal} → behind (then a) s read ≡ refused r → follow first then s ≡ refused r
-    behind_stopped e = stopped (first s) (sym same ∙ e)
-
-    pub behind_found : {b : B} {end : ℕ} → behind (then a) s read ≡ found b end → (next : ℕ) × (follow first then s ≡ found (a, b) next)
-    behind_found {b} e = let u = there (first s) (sym same ∙ e) in (u.0, u.1 ∙ ap (λ (x : A). found (x, b) u.0) (sym q))
+  pub second_refused : {r : Refusal} → then a (drop next s) ≡ refused r → Err r ≡ value_read (follow first then s)
+  second_refused e' = rw (e, e') refl

@@ -1,5 +1,7 @@
 -- The line of a sheet, and a card behind it: a format where the card is one. A sheet that passes is the net's own, and another one is refused as 11 whatever
 -- stands behind its line, which nothing else is.
+use Rattle.reply.specs.Respond.{Passed}
+use Rattle.std.specs.Prelude.{Err, None, Option, Some}
 use Prim.Native.Nat.{ℕ, ◌+◌, ◌^◌, ◌≤◌, ◌<◌}
 use native.Mathlib.Decide.{dec_le}
 use native.Mathlib.Omega.{arith}
@@ -12,10 +14,7 @@ use borrow.Author.Tests.{eqb-true, eqb-false, eq-eqb, ne_eqb}
 use Rattle.laws.specs.Writing.{first_there, second_there}
 use Rattle.reply.specs.declared.Refusal.{Refusal}
 use Rattle.reply.specs.declared.Refusal.TheVariants.{Malformed, OutOfRange, AnotherSheet}
-use Rattle.reply.specs.declared.Checked.TheVariants.{Passed, Refused}
 use Rattle.reply.specs.Refusal.{number_of, position_of}
-use Rattle.text.specs.declared.NumberRead.{NumberRead}
-use Rattle.text.specs.declared.NumberRead.TheVariants.{Value, NoNumber}
 use Rattle.text.specs.Key.{bytes, begins_with}
 use Rattle.text.specs.Number.{field_at}
 use Rattle.text.specs.Decimal.{field}
@@ -40,11 +39,11 @@ sheet_refused s at line {r} = go (begins_with (bytes "sheet=") (drop at s)) (fie
     malformed : ◌≡◌ {A = Found ℕ} (refused (Malformed line)) (refused r) → number_of r ≤ 2
     malformed e = omega (arith, ap number_of (refused_same e))
 
-    go : (t : Bool) (x : NumberRead) → cond t (and_then (formed line x) (λ n next. found_if (ranged 0 9999 n line) n next)) (refused (Malformed line)) ≡ refused r
+    go : (t : Bool) (x : Option (ℕ × ℕ)) → cond t (and_then (formed line x) (λ n next. found_if (ranged 0 9999 n line) n next)) (refused (Malformed line)) ≡ refused r
         → number_of r ≤ 2
     go false x e = malformed e
-    go true NoNumber e = malformed e
-    go true (Value n next) e =
+    go true None e = malformed e
+    go true (Some (n, next)) e =
         let same = test_refused (leb 0 n && leb n 9999) (OutOfRange line) (judged_refused (ranged 0 9999 n line) n next e) in
         omega (arith, ap number_of same)
 
@@ -53,10 +52,10 @@ sheet_line_format = ranged_format (bytes "sheet=") 0 9999 (lit< tt)
 
 module _ (own : ℕ) where
   -- the check by its cases: 2, then 11
-  pub far_sheet : (n line : ℕ) → 9999 < n → sheet_checked own n line ≡ Refused (OutOfRange line)
+  pub far_sheet : (n line : ℕ) → 9999 < n → sheet_checked own n line ≡ Err (OutOfRange line)
   far_sheet n line h = rw (above_range 0 9999 n h) refl
 
-  pub another_sheet : (n line : ℕ) → n ≤ 9999 → (n ≡ own → ⊥) → sheet_checked own n line ≡ Refused (AnotherSheet line)
+  pub another_sheet : (n line : ℕ) → n ≤ 9999 → (n ≡ own → ⊥) → sheet_checked own n line ≡ Err (AnotherSheet line)
   another_sheet n line h other = rw (in_range 0 9999 n (omega arith) h, ne_eqb n own other) refl
 
   pub own_sheet : (n line : ℕ) → n ≤ 9999 → n ≡ own → sheet_checked own n line ≡ Passed
@@ -73,7 +72,7 @@ module _ (own : ℕ) where
   pub sheet_own : OwnLine (sheet_checked own)
   sheet_own n line r = go (leb 0 n && leb n 9999) (eqb n own)
     where
-      go : (a b : Bool) → also (cond a Passed (Refused (OutOfRange line))) (cond b Passed (Refused (AnotherSheet line))) ≡ Refused r → position_of r ≡ line
+      go : (a b : Bool) → also (cond a Passed (Err (OutOfRange line))) (cond b Passed (Err (AnotherSheet line))) ≡ Err r → position_of r ≡ line
       go true true e = let z : ◌≡◌ {A = ℕ} 0 1 = cc in absurd (omega arith)
       go true false e = let same : r ≡ AnotherSheet line = cc in ap position_of same
       go false b e = let same : r ≡ OutOfRange line = cc in ap position_of same
@@ -82,7 +81,7 @@ module _ (own : ℕ) where
   sheet_small n line p = omega (arith, sheet_within n line p)
 
   -- a number that is too long to write is out of range
-  sheet_long : (n line : ℕ) → 999999999 ≤ n → sheet_checked own n line ≡ Refused (OutOfRange line)
+  sheet_long : (n line : ℕ) → 999999999 ≤ n → sheet_checked own n line ≡ Err (OutOfRange line)
   sheet_long n line h = far_sheet n line (omega arith)
 
   module _ {A : Type 0} {f : Form A} where
@@ -116,12 +115,12 @@ module _ (own : ℕ) where
       malformed : {P : Type 0} → ◌≡◌ {A = Found ℕ} (refused (Malformed line)) (refused (AnotherSheet line)) → P
       malformed e = absurd (omega (arith, ap number_of (refused_same e)))
 
-      go : (t : Bool) (x : NumberRead)
+      go : (t : Bool) (x : Option (ℕ × ℕ))
           → cond t (and_then (formed line x) (λ n next. found_if (sheet_checked own n line) n next)) (refused (Malformed line)) ≡ refused (AnotherSheet line)
           → Another (cond t (and_then (formed line x) (λ n next. found_if (ranged 0 9999 n line) n next)) (refused (Malformed line)))
       go false x e = malformed e
-      go true NoNumber e = malformed e
-      go true (Value n next) e = judged n next (dec_le n 9999) (eqb n own) refl e
+      go true None e = malformed e
+      go true (Some (n, next)) e = judged n next (dec_le n 9999) (eqb n own) refl e
 
   pub another_told : {A : Type 0} (f : Form A) {k : ℕ} → Placed f k → (s : List ℕ) (at line : ℕ) → (on_sheet own f).read s at line ≡ refused (AnotherSheet line)
       → Another (sheet.read s at line)

@@ -1,4 +1,5 @@
 -- How long the text of a value that passes its check can be: k bytes at most, by one law for each way to put forms together.
+use Rattle.reply.specs.Respond.{Passed}
 use Prim.Native.Nat.{ℕ, ◌+◌, ◌*◌, ◌^◌, ◌≤◌, ◌<◌, min}
 use native.Mathlib.Nat.{le_trans, mul-suc, mul-le-mul_left, min-le_right}
 use native.Mathlib.Omega.{arith}
@@ -10,7 +11,6 @@ use lib.Dec.{leb, eqb}
 use borrow.Author.Tests.{leb-true}
 use Rattle.laws.specs.Slots.{first_of, length_first}
 use Rattle.reply.specs.declared.Refusal.TheVariants.{OutOfRange}
-use Rattle.reply.specs.declared.Checked.TheVariants.{Passed}
 use Rattle.text.specs.Decimal.{field}
 use Rattle.text.proofs.DecimalLaws.{digits_few}
 use Rattle.text.proofs.NumberLaws.{length_field}

@@ -1,5 +1,7 @@
 -- A value is checked as its text is read (`Told`), one law for each way to put forms together: a number too long to write stands as the largest of nine
 -- digits, which every range refuses as it refuses the number itself.
+use Rattle.reply.specs.Respond.{Checked, Passed}
+use Rattle.std.specs.Prelude.{Err}
 use Prim.Native.Nat.{ℕ, ◌+◌, ◌^◌, ◌≤◌, ◌<◌, min}
 use native.Mathlib.Nat.{zero-add, le_of_suc-le-suc, add-zero, le_refl, min-eq_left, min-eq_right, min-le_right}
 use native.Mathlib.Omega.{arith}
@@ -15,8 +17,6 @@ use Rattle.laws.specs.Slots.{first_of, pad_to, length_first, first_mapped}
 use Rattle.laws.specs.Writing.{first_there, second_there, both_long}
 use Rattle.reply.specs.declared.Refusal.{Refusal}
 use Rattle.reply.specs.declared.Refusal.TheVariants.{OutOfRange, NoSuchTransition}
-use Rattle.reply.specs.declared.Checked.{Checked}
-use Rattle.reply.specs.declared.Checked.TheVariants.{Passed, Refused}
 use Rattle.reply.specs.Refusal.{position_of}
 use Rattle.text.specs.Key.{begins_with}
 use Rattle.text.specs.Decimal.{field}
@@ -42,17 +42,17 @@ same_test test refuses long n = go (dec_le n 999999999)
     go (no h) = ap test (min-eq_right {n = 999999999} (omega arith)) ∙ long 999999999 (omega arith) ∙ sym (long n (omega arith))
 
 module _ {A : Type 0} (judge : ℕ → ℕ → Checked) (to : ℕ → A) (refusal : ℕ → Refusal)
-    (long : (n line : ℕ) → 999999999 ≤ n → judge n line ≡ Refused (refusal line)) where
+    (long : (n line : ℕ) → 999999999 ≤ n → judge n line ≡ Err (refusal line)) where
   pub judged_writable : (n line next : ℕ) → found_if (judge (writable n) line) (to (writable n)) next ≡ found_if (judge n line) (to n) next
   judged_writable n line next = same_test (λ m. found_if (judge m line) (to m) next) (refused (refusal line)) (λ m h. rw (long m line h) refl) n
 
-pub ranged_long : (low high : ℕ) → high < 999999999 → (n line : ℕ) → 999999999 ≤ n → ranged low high n line ≡ Refused (OutOfRange line)
+pub ranged_long : (low high : ℕ) → high < 999999999 → (n line : ℕ) → 999999999 ≤ n → ranged low high n line ≡ Err (OutOfRange line)
 ranged_long low high h n line l = rw (above_range low high n (omega arith)) refl
 
-listed_long : (transitions : ℕ) → transitions ≤ 999999999 → (n line : ℕ) → 999999999 ≤ n → listed transitions n line ≡ Refused (NoSuchTransition line)
+listed_long : (transitions : ℕ) → transitions ≤ 999999999 → (n line : ℕ) → 999999999 ≤ n → listed transitions n line ≡ Err (NoSuchTransition line)
 listed_long transitions h n line l = rw (le-ltb n transitions (omega arith)) refl
 
-pub number_told : (judge : ℕ → ℕ → Checked) (refusal : ℕ → Refusal) → ((n line : ℕ) → 999999999 ≤ n → judge n line ≡ Refused (refusal line))
+pub number_told : (judge : ℕ → ℕ → Checked) (refusal : ℕ → Refusal) → ((n line : ℕ) → 999999999 ≤ n → judge n line ≡ Err (refusal line))
     → Told (number judge) writable
 number_told judge refusal long =
     record {
@@ -87,7 +87,7 @@ module _ (k size low high : ℕ) (h : high < 999999999) where
       }
 
 -- so a check that refuses names a line from the first on, as the reading does
-pub told_placed : {A : Type 0} {f : Form A} {cut : A → A} → Told f cut → {n : ℕ} → Placed f n → (a : A) (line : ℕ) {r : Refusal} → f.check a line ≡ Refused r
+pub told_placed : {A : Type 0} {f : Form A} {cut : A → A} → Told f cut → {n : ℕ} → Placed f n → (a : A) (line : ℕ) {r : Refusal} → f.check a line ≡ Err r
     → line ≤ position_of r
 told_placed {f = f} {cut} w p a line {r} e =
     let t = f.text (cut a) in
@@ -190,7 +190,7 @@ module _ {A : Type 0} {f : Form A} {cut : A → A} (w : Told f cut) where
     where
       go : (c : Checked) → ended f (f.text (cut a)) (found_if c (f.clean a) (length (f.text (cut a)))) ≡ found_if c (f.clean a) (length (f.text (cut a)))
       go Passed = let n = length (f.text (cut a)) in rw (le-leb n n (le_refl n)) refl
-      go (Refused r) = refl
+      go (Err r) = refl
 
   -- a value that passes has no number too long to write
   pub told_text_lem : Inverse f → Settled f → (a : A) (line : ℕ) → f.check a line ≡ Passed → f.text (cut a) ≡ f.text a

@@ -1,17 +1,21 @@
 -- A form says how a part of a card is written, checked and read. Every card is one form, put together from the forms of its lines, so that
 -- reader, writer and check are given by one description.
-use Rattle.std.specs.Prelude.{ℕ, zero, suc, ◌+◌, min, cond, List, [], ◌∷◌, ◌++◌, map, length, drop, leb}
+use Rattle.reply.specs.Respond.{Checked, Passed}
+use Rattle.std.specs.Prelude.{ℕ, zero, suc, ◌+◌, min, cond, List, [], ◌∷◌, ◌++◌, map, length, drop, leb, Result, Ok, Err}
 use Rattle.laws.specs.Slots.{first_of, pad_to}
 use Rattle.reply.specs.declared.Refusal.{Refusal}
 use Rattle.reply.specs.declared.Refusal.TheVariants.{Malformed}
-use Rattle.reply.specs.declared.Checked.{Checked}
-use Rattle.reply.specs.declared.Checked.TheVariants.{Passed, Refused}
 use Rattle.text.specs.Key.{begins_with}
 
 -- what reading finds: a value and the position behind it, or the first refusal
-pub data Found (A : Type 0) : Type 0 where
-  found : A → ℕ → Found A
-  refused : Refusal → Found A
+abbrev pub Found : Type 0 → Type 0
+Found A = Result (A × ℕ) Refusal
+
+pattern abbrev pub found : {A : Type 0} → A → ℕ → Found A
+found a next = Ok (a, next)
+
+pattern abbrev pub refused : {A : Type 0} → Refusal → Found A
+refused r = Err r
 
 -- reading goes on behind what was found, and stops at the first refusal
 abbrev pub and_then : {A B : Type 0} → Found A → (A → ℕ → Found B) → Found B
@@ -21,12 +25,12 @@ and_then (refused r) more = refused r
 -- the value that a check lets pass
 abbrev pub found_if : {A : Type 0} → Checked → A → ℕ → Found A
 found_if Passed a next = found a next
-found_if (Refused r) a next = refused r
+found_if (Err r) a next = refused r
 
 -- two checks, of which the first refusal counts
 abbrev pub also : Checked → Checked → Checked
 also Passed second = second
-also (Refused r) second = Refused r
+also (Err r) second = Err r
 
 pub record Form (A : Type 0) : Type 0 where
   -- the bytes of a value

@@ -1,7 +1,7 @@
 -- What makes a form a format: its reader and its writer are inverse, its reader looks at a bounded part of the input alone, and a refusal names a line.
+use Rattle.reply.specs.Respond.{Passed}
 use Rattle.std.specs.Prelude.{ℕ, ◌+◌, ◌≤◌, ◌<◌, ◌≡◌, List, ◌++◌, length, take, drop}
 use Rattle.reply.specs.declared.Refusal.{Refusal}
-use Rattle.reply.specs.declared.Checked.TheVariants.{Passed}
 use Rattle.reply.specs.Refusal.{position_of}
 use Rattle.form.specs.Form.{found, refused, found_if, Form}
 

@@ -1,23 +1,20 @@
 -- Document 01, "Cards": what stands behind the key of a line.
-use Rattle.std.specs.Prelude.{ℕ, zero, suc, min, Bool, true, cond, ◌&&◌, List, [], ◌∷◌, ◌++◌, length, leb, ltb, eqb}
+use Rattle.reply.specs.Respond.{Checked, Passed}
+use Rattle.std.specs.Prelude.{ℕ, zero, suc, min, Bool, true, cond, ◌&&◌, List, [], ◌∷◌, ◌++◌, length, leb, ltb, eqb, Err, None, Option, Some}
 use Rattle.laws.specs.Slots.{first_of, pad_to}
 use Rattle.reply.specs.declared.Refusal.TheVariants.{Malformed, OutOfRange, NoSuchTransition}
-use Rattle.reply.specs.declared.Checked.{Checked}
-use Rattle.reply.specs.declared.Checked.TheVariants.{Passed, Refused}
-use Rattle.text.specs.declared.NumberRead.{NumberRead}
-use Rattle.text.specs.declared.NumberRead.TheVariants.{Value, NoNumber}
 use Rattle.text.specs.Number.{field_at}
 use Rattle.text.specs.Decimal.{field}
 use Rattle.form.specs.Form.{Found, found, refused, and_then, found_if, Form}
 
 -- a number of the wrong form is 1
-abbrev pub formed : ℕ → NumberRead → Found ℕ
-formed line (Value n next) = found n next
-formed line NoNumber = refused (Malformed line)
+abbrev pub formed : ℕ → Option (ℕ × ℕ) → Found ℕ
+formed line (Some (n, next)) = found n next
+formed line None = refused (Malformed line)
 
 -- a number outside its range is 2
 abbrev pub ranged : ℕ → ℕ → ℕ → ℕ → Checked
-ranged low high n line = cond (leb low n && leb n high) Passed (Refused (OutOfRange line))
+ranged low high n line = cond (leb low n && leb n high) Passed (Err (OutOfRange line))
 
 -- a number as it can be written: one that is too long stands as the largest of nine digits, which is outside of every range
 abbrev pub writable : ℕ → ℕ
@@ -25,7 +22,7 @@ writable n = min n 999999999
 
 -- a transition that is not in the net is 4
 abbrev pub listed : ℕ → ℕ → ℕ → Checked
-listed transitions n line = cond (ltb n transitions) Passed (Refused (NoSuchTransition line))
+listed transitions n line = cond (ltb n transitions) Passed (Err (NoSuchTransition line))
 
 -- a number and the line's end; the form comes before the check
 abbrev pub number : (ℕ → ℕ → Checked) → Form ℕ
@@ -54,7 +51,7 @@ all_ranged low high (n ∷ ns) = leb low n && leb n high && all_ranged low high 
 
 -- a list with one of its numbers outside the range is 2
 abbrev pub items_ranged : ℕ → ℕ → List ℕ → ℕ → Checked
-items_ranged low high ns line = cond (all_ranged low high ns) Passed (Refused (OutOfRange line))
+items_ranged low high ns line = cond (all_ranged low high ns) Passed (Err (OutOfRange line))
 
 -- a list of exactly k numbers, held in an array of some size; the form of the whole line comes before the ranges
 abbrev pub item_list : ℕ → ℕ → ℕ → ℕ → Form (List ℕ)

@@ -1,4 +1,5 @@
 -- The joined net of two nets that pass their check passes it too.
+use Rattle.std.specs.Prelude.{Err, None, Option, Some}
 use Prim.Native.Nat.{ℕ, zero, suc, ◌+◌, ◌-◌, ◌*◌, ◌/◌, ◌%◌, ◌≤◌, ◌<◌, min}
 use native.Mathlib.Nat.{not-suc-le-zero, le_of_suc-le-suc, min-eq_left}
 use native.Mathlib.Numerals.{add-one}
@@ -7,7 +8,7 @@ use native.Mathlib.Decide.{dec_lt}
 use mathlib.Core.Path.{◌≡◌, refl, sym, subst, ◌∙◌}
 use mathlib.Core.Bool.{Bool, true, false, cond, ◌&&◌, and-eq-true_iff}
 use mathlib.Core.List.{List, [], ◌∷◌}
-use mathlib.Core.Option.{Option, none, some}
+use mathlib.Core.Option.{Option as Place, none, some}
 use lib.ListN.{length, get_or, replicate}
 use lib.Dec.{leb, ltb}
 use borrow.Author.Tests.{leb-true, le-leb}
@@ -16,13 +17,10 @@ use Rattle.laws.specs.Each.{Each, each_at}
 use Rattle.laws.specs.Slots.{first_of, length_first, get_d_first, get_d_padded}
 use Rattle.reply.specs.declared.Refusal.{Refusal}
 use Rattle.reply.specs.declared.Refusal.TheVariants.{OutOfRange, LatestBelowEarliest}
-use Rattle.reply.specs.declared.Checked.{Checked}
-use Rattle.reply.specs.declared.Checked.TheVariants.{Passed, Refused}
+use Rattle.reply.specs.Respond.{Checked, Passed}
 use Rattle.form.specs.Form.{also}
 use Rattle.form.specs.Line.{ranged, all_ranged, items}
 use Rattle.form.proofs.Found.{also_first, also_second, checks_each, test_passed}
-use Rattle.net.specs.declared.Latest.{Latest}
-use Rattle.net.specs.declared.Latest.TheVariants.{Unbounded, Ticks}
 use Rattle.net.specs.declared.Transition.{Transition}
 use Rattle.net.specs.declared.Net.{Net}
 use Rattle.net.specs.Net.{latest_checked, Row, row, no_row, no_transition, starts, takes_in, gives_in, take_of, give_of, row_at, rows_of, net_card}
@@ -40,19 +38,19 @@ use Rattle.joining.proofs.JoinedNet.{first_start, second_start, past_start}
 also_then : (c c' d d' : Checked) → also c d ≡ Passed → (c ≡ Passed → c' ≡ Passed) → (d ≡ Passed → d' ≡ Passed) → also c' d' ≡ Passed
 also_then c c' d d' e f g = rw (f (also_first c d e)) (g (also_second c d e))
 
-test_again : (t : Bool) (r r' : Refusal) → cond t Passed (Refused r) ≡ Passed → cond t Passed (Refused r') ≡ Passed
+test_again : (t : Bool) (r r' : Refusal) → cond t Passed (Err r) ≡ Passed → cond t Passed (Err r') ≡ Passed
 test_again true r r' e = refl
 test_again false r r' e = cc
 
 ranged_again : (low high n line line' : ℕ) → ranged low high n line ≡ Passed → ranged low high n line' ≡ Passed
 ranged_again low high n line line' = test_again (leb low n && leb n high) (OutOfRange line) (OutOfRange line')
 
-latest_again : (earliest : ℕ) (l : Latest) (line line' : ℕ) → latest_checked earliest l line ≡ Passed → latest_checked earliest l line' ≡ Passed
-latest_again earliest Unbounded line line' e = refl
-latest_again earliest (Ticks n) line line' e =
+latest_again : (earliest : ℕ) (l : Option ℕ) (line line' : ℕ) → latest_checked earliest l line ≡ Passed → latest_checked earliest l line' ≡ Passed
+latest_again earliest None line line' e = refl
+latest_again earliest (Some n) line line' e =
     also_then (ranged 0 1000 n line) (ranged 0 1000 n line') _ _ e (ranged_again 0 1000 n line line') (go (ltb n earliest))
   where
-    go : (t : Bool) → cond t (Refused (LatestBelowEarliest line)) Passed ≡ Passed → cond t (Refused (LatestBelowEarliest line')) Passed ≡ Passed
+    go : (t : Bool) → cond t (Err (LatestBelowEarliest line)) Passed ≡ Passed → cond t (Err (LatestBelowEarliest line')) Passed ≡ Passed
     go true e = cc
     go false e = refl
 
@@ -110,7 +108,7 @@ net_rows n e t h =
     (each_at (RowFits n.places) no_row listed each t (omega (arith, length_first k no_row (rows_of n))))
 
 -- weights of such a row, at places of its net
-weight_small : (n : ℕ) (w : List ℕ) → ((q : ℕ) → q < n → get_or w q 0 ≤ 255) → (o : Option ℕ) → Within n o → weight_at w o ≤ 255
+weight_small : (n : ℕ) (w : List ℕ) → ((q : ℕ) → q < n → get_or w q 0 ≤ 255) → (o : Place ℕ) → Within n o → weight_at w o ≤ 255
 weight_small n w h none k = omega arith
 weight_small n w h (some q) k = h q k
 

@@ -1,4 +1,5 @@
 -- Values are joined as their cards. A number too long to write names no place, and neither does the largest that can be written, which stands for it.
+use Rattle.std.specs.Prelude.{Err}
 use Prim.Native.Nat.{ℕ, ◌+◌, ◌%◌, ◌^◌, ◌≤◌, ◌<◌}
 use native.Mathlib.Omega.{arith}
 use mathlib.Core.Path.{◌≡◌, refl, sym, ap, ◌∙◌}
@@ -7,9 +8,7 @@ use mathlib.Core.List.{List, [], ◌∷◌, ◌++◌, map}
 use lib.ListN.{length}
 use Rattle.laws.specs.Each.{Each, each_map, each_image}
 use Rattle.reply.specs.declared.Refusal.TheVariants.{BadPairs}
-use Rattle.reply.specs.declared.Checked.{Checked}
-use Rattle.reply.specs.declared.Checked.TheVariants.{Passed, Refused}
-use Rattle.reply.specs.Respond.{refusal, written_if}
+use Rattle.reply.specs.Respond.{refusal, written_if, Checked, Passed}
 use Rattle.form.specs.Form.{found_if, also, alone}
 use Rattle.form.specs.Line.{writable}
 use Rattle.form.proofs.Row.{row_told}
@@ -62,7 +61,7 @@ module _ (a b : Net) (few : a.places ≤ 16) (few' : b.places ≤ 16) where
   wrong_refused list e =
       let j = joined_net a b (pairs_of list) in
       let rest = also (starts_checked a.start b.start list) (size_checked j) in
-      ap (λ (t : Bool). written_if (also (cond t Passed (Refused BadPairs)) rest) (net_card.text j)) e
+      ap (λ (t : Bool). written_if (also (cond t Passed (Err BadPairs)) rest) (net_card.text j)) e
 
   cut_same : (list : List ℕ) → join_of a b (map writable list) ≡ join_of a b list
   cut_same list = go (right list) (right (map writable list)) refl refl
@@ -108,5 +107,5 @@ join_as_cards a b list = rw (cards_told a b list) (go (net_card.check a 1) (net_
         let first = net_same a few (net_transitions a p).1 in
         let second = net_same b few' (net_transitions b q).1 in
         sym (same_joins first second (cut a b list) ∙ cut_same a b few few' list)
-    go Passed (Refused e) p q = refl
-    go (Refused e) d p q = refl
+    go Passed (Err e) p q = refl
+    go (Err e) d p q = refl

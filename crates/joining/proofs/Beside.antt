@@ -1,5 +1,6 @@
 -- A run of the joined net is accepted exactly if the runs of its two sides are: the state of each side is a part of the joined state, behind it by what was
 -- waited since that side's last firing.
+use Rattle.std.specs.Prelude.{Err}
 use Prim.Native.Nat.{ℕ, suc, ◌+◌, ◌-◌, ◌<◌}
 use native.Mathlib.Nat.{zero-add}
 use native.Mathlib.Omega.{arith}
@@ -10,8 +11,7 @@ use lib.ListN.{get_or}
 use borrow.Author.Tests.{lt-ltb, le-ltb}
 use Rattle.laws.specs.Each.{Each}
 use Rattle.laws.specs.Sums.{le_or_lt}
-use Rattle.reply.specs.declared.Checked.{Checked}
-use Rattle.reply.specs.declared.Checked.TheVariants.{Passed, Refused}
+use Rattle.reply.specs.Respond.{Checked, Passed}
 use Rattle.net.specs.declared.Net.{Net}
 use Rattle.run.specs.declared.Firing.{Firing}
 use Rattle.run.specs.declared.Memory.{Memory}
@@ -134,9 +134,9 @@ module _ {c d : Net} {P T P' T' : ℕ} {joined mine others : Played} {w w' : ℕ
   step_both : (x y : Checked) (st side : State) → (x ≡ Passed) ↔ (y ≡ Passed) → (x ≡ Passed → Together c P T d P' T' joined mine others w w')
       → Together c P T d P' T' (step_on x st joined) (step_on y side mine) others w w'
   step_both Passed Passed st side h k = k refl
-  step_both Passed (Refused r) st side h k = absurd (refused_not (h.0 refl))
-  step_both (Refused r) Passed st side h k = absurd (refused_not (h.1 refl))
-  step_both (Refused r) (Refused q) st side h k =
+  step_both Passed (Err r) st side h k = absurd (refused_not (h.0 refl))
+  step_both (Err r) Passed st side h k = absurd (refused_not (h.1 refl))
+  step_both (Err r) (Err q) st side h k =
       record {
         exactly = (λ e. absurd (refused_not e), λ e. absurd (refused_not e.0));
         mine_beside = λ e. absurd (refused_not e);

@@ -1,4 +1,5 @@
 -- Places that a list names, each once, and those that it leaves: how many there are, and where each stands among them.
+use Rattle.std.specs.Prelude.{Err}
 use Prim.Native.Nat.{ℕ, zero, suc, ◌+◌, ◌%◌, ◌≤◌, ◌<◌, suc-le-suc}
 use native.Mathlib.Nat.{not-suc-le-zero, le_of_suc-le-suc, eq-or-lt_of_le}
 use native.Mathlib.Omega.{arith}
@@ -14,7 +15,7 @@ use borrow.Author.Tests.{eqb-true, eq-eqb, ne_eqb, ltb-true, lt-ltb, not-true}
 use Rattle.laws.specs.Each.{Each, each_map, each_zip}
 use Rattle.laws.specs.Slots.{get_d_within}
 use Rattle.reply.specs.declared.Refusal.TheVariants.{BadPairs}
-use Rattle.reply.specs.declared.Checked.TheVariants.{Passed, Refused}
+use Rattle.reply.specs.Respond.{Passed}
 use Rattle.form.proofs.Found.{test_passed}
 use Rattle.joining.specs.Joining.{pairs_of, firsts, seconds, among, distinct_places, equal_starts, unpaired, pairs_checked}
 use Rattle.joining.specs.Claims.{first_at, second_at}
@@ -230,11 +231,11 @@ pairs_passed places others list e =
     (eqb-true (length list % 2) 0 k.0, k.1, h.1)
 
 -- no list with more numbers than twice the places of a net
-pub long_list : (places others : ℕ) (list : List ℕ) → places ≤ 16 → others ≤ 16 → 32 < length list → pairs_checked places others list ≡ Refused BadPairs
+pub long_list : (places others : ℕ) (list : List ℕ) → places ≤ 16 → others ≤ 16 → 32 < length list → pairs_checked places others list ≡ Err BadPairs
 long_list places others list few less long = go _ refl
   where
     go : (t : Bool) → pairs_test places others list ≡ t
-        → cond t Passed (Refused BadPairs) ≡ Refused BadPairs
+        → cond t Passed (Err BadPairs) ≡ Err BadPairs
     go true t =
         let h = pairs_passed places others list (rw t refl) in
         absurd (omega (arith, h.0, unpaired_count others (pairs_of list) h.2, length_pairs list))

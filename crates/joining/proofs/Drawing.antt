@@ -11,7 +11,7 @@ use lib.ListN.{length, get_or}
 use lib.Dec.{eqb}
 use borrow.Author.Tests.{eqb-true, eqb-false, eq-eqb, ne_eqb}
 use Rattle.laws.specs.Each.{each_at}
-use Rattle.reply.specs.declared.Checked.TheVariants.{Passed}
+use Rattle.reply.specs.Respond.{Passed}
 use Rattle.net.specs.declared.Net.{Net}
 use Rattle.net.specs.Net.{net_card}
 use Rattle.net.proofs.Card.{net_places}

@@ -1,4 +1,5 @@
 -- A whole input: two net cards and the line `pairs` behind them. Both round trips, what is refused of it, and its reading in steps, card by card.
+use Rattle.std.specs.Prelude.{Err, Ok}
 use Prim.Native.Nat.{ℕ, ◌+◌, ◌-◌, ◌%◌, ◌^◌, ◌≤◌, ◌<◌}
 use native.Mathlib.Nat.{zero-add, le_refl}
 use native.Mathlib.Omega.{arith}
@@ -14,33 +15,27 @@ use Rattle.laws.specs.Each.{Each}
 use Rattle.laws.specs.Slots.{pad_to}
 use Rattle.reply.specs.declared.Refusal.{Refusal}
 use Rattle.reply.specs.declared.Refusal.TheVariants.{OutputTooShort, BadPairs, UnequalStarts, TooLarge}
-use Rattle.reply.specs.declared.Checked.TheVariants.{Passed, Refused}
 use Rattle.reply.specs.Refusal.{number_of, position_of}
-use Rattle.reply.specs.Respond.{Outcome, refusal, written_if}
+use Rattle.reply.specs.Respond.{refusal, written_if, Passed}
 use Rattle.reply.specs.Demanded.{Demanded}
 use Rattle.reply.proofs.Laws.{demanded}
-use Rattle.form.specs.declared.LineRead.TheVariants.{Next, Stopped}
-use Rattle.form.specs.Form.{Found, found, refused, and_then, also, Form, front, alone, follow}
+use Rattle.form.specs.Form.{Found, found, refused, also, Form, front, alone, follow}
 use Rattle.form.specs.Inverse.{Inverse}
-use Rattle.form.specs.Code.{value_or}
-use Rattle.form.proofs.Answers.{line_found, line_stopped}
+use Rattle.form.specs.Code.{value_read}
 use Rattle.form.proofs.Card.{read_back, alone_found}
 use Rattle.form.proofs.Row.{row_read, row_refused}
 use Rattle.net.specs.declared.Net.{Net}
 use Rattle.net.specs.Net.{net_card}
 use Rattle.net.proofs.Card.{net_inverse, net_placed, net_places, net_transitions}
 use Rattle.net.proofs.Same.{net_same}
-use Rattle.net_card.specs.declared.NetRead.{NetRead}
-use Rattle.net_card.specs.Code.{no_net, net_read, remainder_start}
-use Rattle.operations.specs.Operation.{once_read}
 use Rattle.operations.proofs.Answers.{no_answer}
 use Rattle.operations.proofs.Places.{Place, once_refused, line_place}
-use Rattle.joining.specs.declared.PairsRead.{PairsRead}
+use Rattle.joining.specs.declared.Pairs.{Pairs}
 use Rattle.joining.specs.Pairs.{pairs}
 use Rattle.joining.specs.Joining.{pairs_of, firsts, seconds, distinct_places, equal_starts, joined_net}
 use Rattle.joining.specs.Joining.{join_of, net_and_pairs, nets_and_pairs, join_cards}
 use Rattle.joining.specs.Request.{JoinOfCards, join_input, JoinInverse}
-use Rattle.joining.specs.Code.{pairs_read}
+use Rattle.joining.specs.Code.{kept, pairs_read}
 use Rattle.joining.proofs.Numbers.{pairs_back, pairs_there, pairs_refused}
 
 -- ---- what was read
@@ -150,7 +145,7 @@ join_refused a b list {r} =
 
     go : (text : List ℕ) (paired equal fits : Bool)
         → written_if
-        (also (cond paired Passed (Refused BadPairs)) (also (cond equal Passed (Refused UnequalStarts)) (cond fits Passed (Refused TooLarge)))) text
+        (also (cond paired Passed (Err BadPairs)) (also (cond equal Passed (Err UnequalStarts)) (cond fits Passed (Err TooLarge)))) text
         ≡ refusal r
         → (12 ≤ number_of r) × (position_of r ≡ 0)
     go text true true true e = absurd (no_answer (sym e))
@@ -167,47 +162,29 @@ join_own s r =
 pub cards_replies : (s : List ℕ) → Demanded (join_cards s)
 cards_replies s = demanded (join_cards s) (λ e. (join_own s OutputTooShort e).1 refl)
 
--- ---- the reading in steps: what the reader of the net at the front says
-module _ (s : List ℕ) {r : NetRead} (p : r ≡ net_read (net_card.read s 0 1)) where
-  net_there : {k : ℕ} → r.read ≡ Next k → front net_card s ≡ found r.net k
-  net_there = line_found (front net_card s) no_net r.net r.read (ap (λ (x : NetRead). x.read) p) (ap (λ (x : NetRead). x.net) p)
+-- ---- the reading in steps
+-- the net that was read at the front passes its check
+pub front_passed : (s : List ℕ) {net : Net} {next : ℕ} → net_card.read s 0 1 ≡ found net next → net_card.check net 1 ≡ Passed
+front_passed s {net} {next} there = (net_inverse.written_read net s 0 next 1 there).passed
 
-  pub front_passed : {k : ℕ} → r.read ≡ Next k → net_card.check r.net 1 ≡ Passed
-  front_passed {k} e = (net_inverse.written_read r.net s 0 k 1 (net_there e)).passed
+kept_whole : (list : List ℕ) → length list ≤ 32 → take (length list) (pad_to 32 0 (take 32 list)) ≡ list
+kept_whole list few = rw (take_all 32 list few) (take-append_seam list (replicate (32 - length list) 0))
 
-  module _ {B : Type 0} (g : List ℕ → Found B) (h : Net × B → Outcome) where
-    -- what stands behind it is read from the remainder
-    pub once_behind : {k : ℕ} {rest : List ℕ} → r.read ≡ Next k → rest ≡ drop (remainder_start r.read) s
-        → once_read (follow (front net_card) (λ _. g) s) h ≡ once_read (g rest) (λ b. h (r.net, b))
-    once_behind {k} {rest} e q = rw (net_there e, q, e) (go (g (drop k s)))
-      where
-        go : (f : Found B) → once_read (and_then f (λ b end. found (r.net, b) (k + end))) h ≡ once_read f (λ b. h (r.net, b))
-        go (found b end) = refl
-        go (refused why) = refl
+-- what the reader of the line says: the whole list, if the array holds it
+module _ (s : List ℕ) {read : Pairs} (p : value_read (pairs_read (alone pairs s)) ≡ Ok read) where
+  list_there : (list : List ℕ) × (next : ℕ) × (alone pairs s ≡ found list next) × (read ≡ kept list)
+  list_there = go (alone pairs s) p
+    where
+      go : (f : Found (List ℕ)) → value_read (pairs_read f) ≡ Ok read → (list : List ℕ) × (next : ℕ) × (f ≡ found list next) × (read ≡ kept list)
+      go (found list next) e = (list, next, refl, cc)
+      go (refused why) e = let z : ◌≡◌ {A = ℕ} 0 1 = cc in absurd (omega arith)
 
-    pub once_stopped : {why : Refusal} → r.read ≡ Stopped why → once_read (follow (front net_card) (λ _. g) s) h ≡ refusal why
-    once_stopped e = rw (line_stopped (front net_card s) r.read (ap (λ (x : NetRead). x.read) p) e) refl
+  pub list_held : read.count ≤ 32 → (next : ℕ) × (alone pairs s ≡ found (take read.count read.list) next)
+  list_held few =
+      let (list, next, q, same) = list_there in
+      let whole : take read.count read.list ≡ list =
+      ap (λ (r : Pairs). take r.count r.list) same ∙ kept_whole list (omega (arith, few, ap (λ (r : Pairs). r.count) same)) in
+      (next, q ∙ ap (λ (l : List ℕ). found l next) (sym whole))
 
--- and what the reader of the line says: the whole list, if the array holds it
-module _ (s : List ℕ) {r : PairsRead} (p : r ≡ pairs_read (alone pairs s)) where
-  list_there : {k : ℕ} → r.read ≡ Next k → (list : List ℕ) × (alone pairs s ≡ found list k) × (r ≡ pairs_read (found list k))
-  list_there {k} e =
-      let f = alone pairs s in
-      let q = line_found f [] (value_or [] f) r.read (ap (λ (x : PairsRead). x.read) p) refl e in
-      (value_or [] f, q, p ∙ ap pairs_read q)
-
-  pub list_held : {k : ℕ} → r.read ≡ Next k → r.count ≤ 32 → alone pairs s ≡ found (take r.count r.list) k
-  list_held {k} e few =
-      let (list, q, same) = list_there e in
-      let long : r.count ≡ length list = ap (λ (x : PairsRead). x.count) same in
-      let held : r.list ≡ pad_to 32 0 list = ap (λ (x : PairsRead). x.list) same ∙ ap (pad_to 32 0) (take_all 32 list (omega arith)) in
-      let whole : take r.count r.list ≡ list =
-      ap (λ (l : List ℕ). take r.count l) held ∙ ap (λ (n : ℕ). take n (pad_to 32 0 list)) long
-      ∙ take-append_seam list (replicate (32 - length list) 0) in
-      q ∙ ap (λ (l : List ℕ). found l k) (sym whole)
-
-  pub list_longer : {k : ℕ} → r.read ≡ Next k → 32 < r.count → (list : List ℕ) × (32 < length list) × (alone pairs s ≡ found list k)
-  list_longer e more = let (list, q, same) = list_there e in (list, omega (arith, ap (λ (x : PairsRead). x.count) same), q)
-
-  pub list_refused : {why : Refusal} → r.read ≡ Stopped why → alone pairs s ≡ refused why
-  list_refused = line_stopped (alone pairs s) r.read (ap (λ (x : PairsRead). x.read) p)
+  pub list_longer : 32 < read.count → (list : List ℕ) × (next : ℕ) × (32 < length list) × (alone pairs s ≡ found list next)
+  list_longer more = let (list, next, q, same) = list_there in (list, next, omega (arith, more, ap (λ (r : Pairs). r.count) same), q)

@@ -9,7 +9,7 @@ use lib.ListN.{length}
 use Rattle.laws.specs.Each.{Each}
 use Rattle.laws.specs.Slots.{pad_to}
 use Rattle.laws.specs.Sums.{le_or_lt}
-use Rattle.reply.specs.declared.Checked.TheVariants.{Passed}
+use Rattle.reply.specs.Respond.{Passed}
 use Rattle.net.specs.declared.Net.{Net}
 use Rattle.net.specs.Net.{net_card}
 use Rattle.net.proofs.Card.{net_sheet}

@@ -1,5 +1,6 @@
 -- When two nets are joined, and that the answer is the card of the joined net: no more and no less than what its definition says. And nets that agree in all
 -- that counts are joined alike.
+use Rattle.std.specs.Prelude.{Err}
 use Prim.Native.Nat.{ℕ, ◌≤◌, ◌<◌}
 use mathlib.Core.Path.{◌≡◌, refl, sym, ap, ◌∙◌}
 use mathlib.Core.Bool.{true, cond, ◌&&◌, and-eq-true_iff}
@@ -9,9 +10,7 @@ use lib.Dec.{leb, eqb}
 use borrow.Author.Tests.{leb-true}
 use Rattle.laws.specs.Each.{Each, each_map}
 use Rattle.reply.specs.declared.Refusal.TheVariants.{UnequalStarts, TooLarge}
-use Rattle.reply.specs.declared.Checked.{Checked}
-use Rattle.reply.specs.declared.Checked.TheVariants.{Passed, Refused}
-use Rattle.reply.specs.Respond.{written_if}
+use Rattle.reply.specs.Respond.{written_if, Checked, Passed}
 use Rattle.reply.proofs.Laws.{written_answer}
 use Rattle.form.specs.Form.{found, also, alone}
 use Rattle.form.proofs.Found.{found_value, also_first, also_second, test_passed}
@@ -96,7 +95,7 @@ joined_exactly a b j list = (
 -- a second check counts only where the first passes
 also_same : (c : Checked) {d d' : Checked} → (c ≡ Passed → d ≡ d') → also c d ≡ also c d'
 also_same Passed h = h refl
-also_same (Refused r) h = refl
+also_same (Err r) h = refl
 
 module _ {a b c d : Net} (s : SameNet a c) (u : SameNet b d) where
   starts_same : (vs : List (ℕ × ℕ)) → Each (λ v. (v.0 < c.places) × (v.1 < d.places)) vs
@@ -118,7 +117,7 @@ module _ {a b c d : Net} (s : SameNet a c) (u : SameNet b d) where
         ∙ also_same (pairs_checked c.places d.places list) (λ p.
         let starts = starts_same (pairs_of list) (pairs_below c.places d.places list p) in
         let net = whole_same p in
-        λ i. also (cond (starts i) Passed (Refused UnequalStarts)) (size_checked (net i)))
+        λ i. also (cond (starts i) Passed (Err UnequalStarts)) (size_checked (net i)))
 
     pub same_joins : join_of a b list ≡ join_of c d list
     same_joins =
@@ -128,7 +127,7 @@ module _ {a b c d : Net} (s : SameNet a c) (u : SameNet b d) where
       where
         written_same : (k : Checked) {x y : List ℕ} → (k ≡ Passed → x ≡ y) → written_if k x ≡ written_if k y
         written_same Passed h = ap (written_if Passed) (h refl)
-        written_same (Refused r) h = refl
+        written_same (Err r) h = refl
 
 pub join_slots : JoinSlots
 join_slots a b c d list s u =

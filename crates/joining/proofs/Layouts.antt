@@ -1,41 +1,56 @@
 -- Places in the slots of a layout.
-use Prim.Native.Nat.{ℕ, ◌+◌, ◌≤◌, ◌<◌}
+use Prim.Native.Nat.{ℕ, zero, suc, ◌+◌, ◌-◌, ◌≤◌, ◌<◌}
+use native.Mathlib.Nat.{add-zero, add-suc, le_refl}
 use native.Mathlib.Numerals.{add-one}
 use native.Mathlib.Omega.{arith}
 use mathlib.Core.Path.{◌≡◌, refl, sym, ap, ◌∙◌}
 use mathlib.Core.Bool.{Bool, true, false}
 use mathlib.Core.List.{List, [], ◌∷◌, ◌++◌, map, map-append, append_assoc, append-nil}
-use mathlib.Core.Option.{Option, none, some}
-use lib.ListN.{length, get_or, set, replicate, length-map, length-replicate, length-append, length-set, get_or-map, get_or-append}
+use mathlib.Core.Option.{Option as Place, none, some}
+use mathlib.Core.Logic.{⊎_elim}
+use Rattle.std.specs.Prelude.{Option, Some, None}
+use lib.ListN.{length, get_or, set, replicate, length-map, length-replicate, length-append, length-set, take, get_or-map, get_or-append, get_or-eq_default}
 use lib.Seq.{ext_get_or, get_or-append-add, get_or-set_same, get_or-set_other}
 use lib.Dec.{eqb}
-use borrow.Author.Tests.{lt-ltb, eqb-true, eqb-false}
+use Rattle.std.proofs.lemmas.List.{get_or-take, length-take-le}
+use Rattle.laws.specs.Sums.{le_or_lt}
+use borrow.Author.Tests.{eqb-true, eqb-false}
 use Rattle.laws.specs.Arrays.{filled, filled_at, length_filled}
-use Rattle.laws.specs.Slots.{first_of, length_first, get_d_first}
 use Rattle.joining.specs.Joining.{seconds, among, partner, unpaired, own_places, sources}
+use Rattle.joining.specs.Layout.{Within, IsLayout}
 use Rattle.joining.specs.Code.{place_in, places_in, Partnered, LaidOut}
+use Rattle.joining.proofs.Pairing.{within_set}
 
-pub length_places : (source : List ℕ) (places : ℕ) → length (places_in source places) ≡ places
-length_places source places = length-map (first_of places 16 source) place_in ∙ length_first places 16 source
+pub length_places : (at : List (Option ℕ)) → length (places_in at) ≡ length at
+length_places at = length-map at place_in
 
-pub places_at : (source : List ℕ) (places p : ℕ) → p < places → get_or (places_in source places) p none ≡ place_in (get_or source p 16)
-places_at source places p h = get_or-map place_in (first_of places 16 source) p 16 ∙ ap place_in (get_d_first places 16 source p h)
+pub place_at : (at : List (Option ℕ)) (p : ℕ) → get_or (places_in at) p none ≡ place_in (get_or at p None)
+place_at at p = get_or-map place_in at p None
 
--- places told slot by slot
-pub places_told : (source : List ℕ) (places : ℕ) (at : List (Option ℕ)) → length at ≡ places
-    → ((p : ℕ) → p < places → place_in (get_or source p 16) ≡ get_or at p none) → places_in source places ≡ at
-places_told source places at e h =
-    ext_get_or none (places_in source places) at (length_places source places ∙ sym e)
-    (λ p b. let l : p < places = omega (arith, length_places source places) in places_at source places p l ∙ h p l)
+-- the first places of an array, told slot by slot
+pub places_told : (source : List (Option ℕ)) (places : ℕ) (at : List (Place ℕ)) → places ≤ length source → length at ≡ places
+    → ((p : ℕ) → p < places → place_in (get_or source p None) ≡ get_or at p none) → places_in (take places source) ≡ at
+places_told source places at within e h =
+    let long : length (places_in (take places source)) ≡ places = length_places (take places source) ∙ length-take-le places source within in
+    ext_get_or none (places_in (take places source)) at (long ∙ sym e)
+    (λ p b. let l : p < places = omega (arith, long) in
+    place_at (take places source) p ∙ ap place_in (get_or-take places source p None l) ∙ h p l)
 
 -- the places of the first net
-pub own_laid : (places : ℕ) → places ≤ 16 → {source : List ℕ} → source ≡ filled (λ k. k) places (replicate 16 16) → places_in source places ≡ own_places places
+pub own_laid : (places : ℕ) → places ≤ 16 → (source : List (Option ℕ)) → length source ≡ 16 → ((p : ℕ) → p < 16 → get_or source p None ≡ Some p)
+    → places_in (take places source) ≡ own_places places
 unfolding own_places
-own_laid places few {source} e =
-    places_told source places (filled some places (replicate places none))
+own_laid places few source long held =
+    places_told source places (filled some places (replicate places none)) (omega arith)
     (length_filled some (replicate places none) places ∙ length-replicate places none)
-    (λ p h. rw (e, filled_at (λ k. k) (replicate 16 16) 16 places p h (omega (arith, length-replicate {A = ℕ} 16 16)), lt-ltb p 16 (omega arith))
-    (sym (filled_at some (replicate places none) none places p h (omega (arith, length-replicate {A = Option ℕ} places none)))))
+    (λ p h. rw (held p (omega arith)) (sym (filled_at some (replicate places none) none places p h (omega (arith, length-replicate {A = Place ℕ} places none)))))
+
+pub own_within : (source : List (Option ℕ)) → length source ≡ 16 → ((p : ℕ) → p < 16 → get_or source p None ≡ Some p) → Within source
+own_within source long held p q e =
+    ⊎_elim
+    (λ (h : 16 ≤ p). let none = get_or-eq_default source None {n = p} (omega arith) in absurd (cc))
+    (λ (h : p < 16). let here = held p h in let same : p ≡ q = cc in omega arith)
+    (le_or_lt 16 p)
 
 -- ---- the second net's places, one after the other
 module _ (vs : List (ℕ × ℕ)) (places : ℕ) where
@@ -46,7 +61,7 @@ module _ (vs : List (ℕ × ℕ)) (places : ℕ) where
         arith,
         length-append (filled (partner vs) places (replicate places none)) (map some (unpaired vs q)),
         length_filled (partner vs) (replicate places none) places,
-        length-replicate {A = Option ℕ} places none,
+        length-replicate {A = Place ℕ} places none,
         length-map (unpaired vs q) some,
       )
 
@@ -74,78 +89,108 @@ module _ (vs : List (ℕ × ℕ)) (places : ℕ) where
   unfolding sources
   sources_first q p h =
       let first = filled (partner vs) places (replicate places none) in
-      let long : length first ≡ places = length_filled (partner vs) (replicate places none) places ∙ length-replicate {A = Option ℕ} places none in
+      let long : length first ≡ places = length_filled (partner vs) (replicate places none) places ∙ length-replicate {A = Place ℕ} places none in
       get_or-append first (map some (unpaired vs q)) none p (omega arith)
-      ∙ filled_at (partner vs) (replicate places none) none places p h (omega (arith, length-replicate {A = Option ℕ} places none))
+      ∙ filled_at (partner vs) (replicate places none) none places p h (omega (arith, length-replicate {A = Place ℕ} places none))
+
+-- more places, more that are unpaired
+grown : (vs : List (ℕ × ℕ)) (q : ℕ) (t : Bool) → among q (seconds vs) ≡ t → length (unpaired vs q) ≤ length (unpaired vs (suc q))
+unfolding unpaired
+grown vs q true e = rw (e, append-nil (unpaired vs q)) (le_refl (length (unpaired vs q)))
+grown vs q false e = rw e (omega (arith, length-append (unpaired vs q) (q ∷ [])))
+
+unpaired_grows : (vs : List (ℕ × ℕ)) (q more : ℕ) → length (unpaired vs q) ≤ length (unpaired vs (q + more))
+unpaired_grows vs q zero = rw add-zero (le_refl (length (unpaired vs q)))
+unpaired_grows vs q (suc more) = rw add-suc (omega (arith, unpaired_grows vs q more, grown vs (q + more) (among (q + more) (seconds vs)) refl))
 
 -- what is named of the second net, by some pairs
 abbrev Marks : List (ℕ × ℕ) → List Bool → Type 0
 Marks vs named = (q : ℕ) → q < 16 → get_or named q false ≡ among q (seconds vs)
 
 -- q places of the second net are laid out
-pub record Laying (source : List ℕ) (places : ℕ) (named : List Bool) (others : ℕ) (laid : List ℕ) (count q : ℕ) : Type 0 where
-  pub within : q ≤ others
-  pub few : count ≤ places + q
+pub record Laying (source : List (Option ℕ)) (places : ℕ) (named : List Bool) (laid : List (Option ℕ)) (count q : ℕ) : Type 0 where
+  pub few : count ≤ 16
   pub long : length laid ≡ 16
+  pub within : Within laid
   pub counted : (vs : List (ℕ × ℕ)) → Marks vs named → count ≡ places + length (unpaired vs q)
-  pub held : (vs : List (ℕ × ℕ)) → Marks vs named → Partnered vs source → (p : ℕ) → p < 16 → p < count
-      → place_in (get_or laid p 16) ≡ get_or (sources vs places q) p none
+  pub held : (vs : List (ℕ × ℕ)) → Marks vs named → Partnered vs source → (p : ℕ) → p < count
+      → place_in (get_or laid p None) ≡ get_or (sources vs places q) p none
 
-pub laying_start : (source : List ℕ) (places : ℕ) (named : List Bool) (others : ℕ) → length source ≡ 16 → Laying source places named others source places 0
+pub laying_start : (source : List (Option ℕ)) (places : ℕ) (named : List Bool) → places ≤ 16 → length source ≡ 16 → Within source
+    → Laying source places named source places 0
 unfolding unpaired
-laying_start source places named others long =
+laying_start source places named few long within =
     record {
-      within = omega arith;
-      few = omega arith;
+      few = few;
       long = long;
+      within = within;
       counted = λ vs m. omega arith;
-      held = λ vs m w p h l. w.partners p h ∙ sym (sources_first vs places 0 p l);
+      held = λ vs m w p l. w p (omega arith) ∙ sym (sources_first vs places 0 p l);
     }
 
-module _ {source : List ℕ} {places : ℕ} {named : List Bool} {others : ℕ} {laid : List ℕ} {count q : ℕ} (w : Laying source places named others laid count q)
-    (more : q < others) (few : others ≤ 16) where
-  pub laying_named : get_or named q false ≡ true → Laying source places named others laid count (q + 1)
+module _ {source : List (Option ℕ)} {places : ℕ} {named : List Bool} {laid : List (Option ℕ)} {count q : ℕ} (w : Laying source places named laid count q)
+    (few : q < 16) where
+  pub laying_named : get_or named q false ≡ true → Laying source places named laid count (q + 1)
   laying_named e =
       record {
-        within = omega arith;
-        few = omega (arith, w.few);
+        few = w.few;
         long = w.long;
-        counted = λ vs m. rw (unpaired_not vs places q (sym (m q (omega arith)) ∙ e)) (w.counted vs m);
-        held = λ vs m n p h l. rw (sources_not vs places q (sym (m q (omega arith)) ∙ e)) (w.held vs m n p h l);
+        within = w.within;
+        counted = λ vs m. rw (unpaired_not vs places q (sym (m q few) ∙ e)) (w.counted vs m);
+        held = λ vs m n p l. rw (sources_not vs places q (sym (m q few) ∙ e)) (w.held vs m n p l);
       }
 
-  pub laying_more : get_or named q false ≡ false → Laying source places named others (set laid count q) (count + 1) (q + 1)
-  laying_more e =
+  module _ (e : get_or named q false ≡ false) where
+    counted_more : (vs : List (ℕ × ℕ)) → Marks vs named → count + 1 ≡ places + length (unpaired vs (q + 1))
+    counted_more vs m = rw (unpaired_more vs places q (sym (m q few) ∙ e)) (omega (arith, w.counted vs m, length-append (unpaired vs q) (q ∷ [])))
+
+    -- no slot is left for it
+    pub laying_full : count ≡ 16 → (others : ℕ) → q < others → LaidOut source places named others None
+    laying_full full others h =
+        record {
+          laid = λ vs m n.
+              let more : q + 1 + (others - (q + 1)) ≡ others = omega arith in
+              let grown : length (unpaired vs (q + 1)) ≤ length (unpaired vs others) = rw more at (unpaired_grows vs (q + 1) (others - (q + 1))) in
+              omega (arith, counted_more vs m);
+        }
+
+    pub laying_more : (count ≡ 16 → ⊥) → Laying source places named (set laid count (Some q)) (count + 1) (q + 1)
+    laying_more other =
+        let room : count < 16 = omega (arith, other, w.few) in
+        record {
+          few = omega (arith, room);
+          long = length-set laid count (Some q) ∙ w.long;
+          within = within_set laid count q (omega (arith, w.long)) w.within few;
+          counted = counted_more;
+          held = λ vs m n p l. rw (sources_more vs places q (sym (m q few) ∙ e)) (go vs m n p l (eqb p count) refl);
+        }
+      where
+        go : (vs : List (ℕ × ℕ)) → Marks vs named → Partnered vs source → (p : ℕ) → p < count + 1 → (t : Bool) → eqb p count ≡ t
+            → place_in (get_or (set laid count (Some q)) p None) ≡ get_or (sources vs places q ++ (some q ∷ [])) p none
+        go vs m n p l true t =
+            let z = eqb-true p count t in
+            let all : p ≡ length (sources vs places q) + 0 = omega (arith, w.counted vs m, length_sources vs places q) in
+            rw (z, get_or-set_same laid count (Some q) None (omega (arith, w.long, w.few, other)))
+            (sym (ap (λ (k : ℕ). get_or (sources vs places q ++ (some q ∷ [])) k none) (sym z ∙ all)
+            ∙ get_or-append-add (sources vs places q) (some q ∷ []) 0 none))
+        go vs m n p l false t =
+            let o = eqb-false p count t in
+            ap place_in (get_or-set_other laid count p (Some q) None o)
+            ∙ w.held vs m n p (omega arith)
+            ∙ sym (get_or-append (sources vs places q) (some q ∷ []) none p (omega (arith, w.counted vs m, length_sources vs places q)))
+
+module _ {source : List (Option ℕ)} {places : ℕ} {named : List Bool} {laid : List (Option ℕ)} {count q : ℕ} (w : Laying source places named laid count q) where
+  pub laying_done : (others : ℕ) → q ≡ others → LaidOut source places named others (Some (take count laid))
+  laying_done others all =
       record {
-        within = omega arith;
-        few = omega (arith, w.few);
-        long = length-set laid count q ∙ w.long;
-        counted = λ vs m.
-            rw (unpaired_more vs places q (sym (m q (omega arith)) ∙ e)) (omega (arith, w.counted vs m, length-append (unpaired vs q) (q ∷ [])));
-        held = λ vs m n p h l. rw (sources_more vs places q (sym (m q (omega arith)) ∙ e)) (go vs m n p h l (eqb p count) refl);
+        laid = λ vs m n. (
+          omega (arith, length-take-le count laid (omega (arith, w.few, w.long)), w.few),
+          places_told laid count (sources vs places others) (omega (arith, w.few, w.long))
+              (length_sources vs places others ∙ sym (rw all at (w.counted vs m)))
+              (λ p l. rw all at (w.held vs m n p l)),
+        );
       }
-    where
-      go : (vs : List (ℕ × ℕ)) → Marks vs named → Partnered vs source → (p : ℕ) → p < 16 → p < count + 1 → (t : Bool) → eqb p count ≡ t
-          → place_in (get_or (set laid count q) p 16) ≡ get_or (sources vs places q ++ (some q ∷ [])) p none
-      go vs m n p h l true t =
-          let z = eqb-true p count t in
-          let all : p ≡ length (sources vs places q) + 0 = omega (arith, w.counted vs m, length_sources vs places q) in
-          rw (z, get_or-set_same laid count q 16 (omega (arith, w.long)), lt-ltb q 16 (omega arith))
-          (sym (ap (λ (k : ℕ). get_or (sources vs places q ++ (some q ∷ [])) k none) (sym z ∙ all)
-          ∙ get_or-append-add (sources vs places q) (some q ∷ []) 0 none))
-      go vs m n p h l false t =
-          let other = eqb-false p count t in
-          ap place_in (get_or-set_other laid count p q 16 other)
-          ∙ w.held vs m n p h (omega arith)
-          ∙ sym (get_or-append (sources vs places q) (some q ∷ []) none p (omega (arith, w.counted vs m, length_sources vs places q)))
 
-pub laying_done : {source : List ℕ} {places : ℕ} {named : List Bool} {others : ℕ} {laid : List ℕ} {count q : ℕ}
-    → Laying source places named others laid count q → others ≤ q → LaidOut source places named others (record { places = count; source = laid })
-laying_done {places = places} {others = others} {laid} {count} {q} w h =
-    let all : q ≡ others = omega (arith, w.within) in
-    record {
-      count = λ vs m. rw all at (w.counted vs m);
-      laid = λ vs m n few.
-          places_told laid count (sources vs places others) (length_sources vs places others ∙ sym (rw all at (w.counted vs m)))
-          (λ p l. rw all at (w.held vs m n p (omega arith) l));
-    }
+  -- the layout holds what is asked of it
+  pub laying_layout : IsLayout (record { places = count; source = laid })
+  laying_layout = record { few = w.few; within = w.within }

@@ -1,60 +1,55 @@
 -- The line `pairs`: a list that was written is read back, and what is read was written so; and the loop that reads it.
+use Rattle.std.specs.Prelude.{Err, None, Ok, Option, Some}
 use Prim.Native.Nat.{ℕ, zero, suc, ◌+◌, ◌-◌, ◌^◌, ◌≤◌, ◌<◌}
-use native.Mathlib.Nat.{sub-zero}
 use native.Mathlib.Decide.{dec_lt}
 use native.Mathlib.Omega.{arith}
 use mathlib.Core.Path.{◌≡◌, refl, sym, ap, ◌∙◌}
 use mathlib.Core.Bool.{Bool, true, false, cond}
 use mathlib.Core.Logic.{◌⊎◌, inl, inr}
 use mathlib.Core.List.{List, [], ◌∷◌, ◌++◌, append_assoc, append-nil}
-use lib.ListN.{length, set, take, drop, replicate, length-append, length-take, length-drop, drop_of_length-le}
+use lib.ListN.{length, set, take, drop, length-append, length-take, length-drop, drop_of_length-le}
 use lib.Seq.{take_all, take-append-le, set_out}
 use lib.Dec.{leb, eqb}
-use borrow.Author.Tests.{le-leb, lt-leb, ne_eqb}
+use borrow.Author.Tests.{ne_eqb}
 use Rattle.laws.specs.Each.{Each}
 use Rattle.laws.specs.Slots.{pad_to, length_pad, pad_more}
 use Rattle.laws.specs.Writing.{first_there, second_there, both_there, both_long}
 use Rattle.reply.specs.declared.Refusal.{Refusal}
 use Rattle.reply.specs.declared.Refusal.TheVariants.{Malformed}
-use Rattle.text.specs.declared.NumberRead.{NumberRead}
-use Rattle.text.specs.declared.NumberRead.TheVariants.{Value, NoNumber}
 use Rattle.text.specs.Key.{bytes, begins_with}
 use Rattle.text.specs.Number.{digits_of, number_at, closed, field_at}
 use Rattle.text.specs.Decimal.{field}
 use Rattle.text.proofs.KeyLaws.{begins_text, begins_split}
 use Rattle.text.proofs.NumberLaws.{length_field, field_text, field_split}
-use Rattle.form.specs.declared.LineRead.TheVariants.{Next, Stopped}
-use Rattle.form.specs.Form.{Found, found, refused, and_then, ended, alone}
+use Rattle.form.specs.Form.{Found, found, refused, and_then, alone}
 use Rattle.form.specs.Line.{formed, items_text}
-use Rattle.form.specs.Code.{line_read}
-use Rattle.form.proofs.Found.{not_both, refused_same, found_value, found_place, then_found, then_refused, then_same, then_then, then_nothing}
-use Rattle.form.proofs.Answers.{line_stopped}
+use Rattle.form.proofs.Found.{not_both, refused_same, found_value, found_place, then_found, then_refused, then_same, then_then}
 use Rattle.form.proofs.Lines.{formed_value}
-use Rattle.joining.specs.declared.PairsRead.{PairsRead}
+use Rattle.joining.specs.declared.Pairs.{Pairs}
 use Rattle.joining.specs.Pairs.{last_or, numbers_at, numbers_text, numbers, pairs}
-use Rattle.joining.specs.Code.{pairs_read}
+use Rattle.joining.specs.Code.{kept, pairs_read}
 
 -- ---- a number at a position
 -- one with a comma behind it does not end the line
-pub comma_no_end : (s : List ℕ) (at : ℕ) {n next : ℕ} → field_at s at false ≡ Value n next → field_at s at true ≡ NoNumber
+pub comma_no_end : (s : List ℕ) (at : ℕ) {n next : ℕ} → field_at s at false ≡ Some (n, next) → field_at s at true ≡ None
 unfolding field_at begins_with
 comma_no_end s at {n} {next} = go (number_at s at)
   where
-    behind : (v m : ℕ) (t : Bool) → begins_with (44 ∷ []) (drop m s) ≡ t → cond t (Value v (m + 1)) NoNumber ≡ Value n next
-        → closed s true (Value v m) ≡ NoNumber
+    behind : (v m : ℕ) (t : Bool) → begins_with (44 ∷ []) (drop m s) ≡ t → cond {A = Option (ℕ × ℕ)} t (Some (v, m + 1)) None ≡ Some (n, next)
+        → closed s true (Some (v, m)) ≡ None
     behind v m true e q = rw (begins_split (44 ∷ []) s m e).0 refl
     behind v m false e q = let z : ◌≡◌ {A = ℕ} 0 1 = cc in absurd (omega arith)
 
-    go : (r : NumberRead) → closed s false r ≡ Value n next → closed s true r ≡ NoNumber
-    go NoNumber e = refl
-    go (Value v m) e = behind v m (begins_with (44 ∷ []) (drop m s)) refl e
+    go : (r : Option (ℕ × ℕ)) → closed s false r ≡ Some (n, next) → closed s true r ≡ None
+    go None e = refl
+    go (Some (v, m)) e = behind v m (begins_with (44 ∷ []) (drop m s)) refl e
 
 -- the word `none` is no number
-none_no_number : (s : List ℕ) (at : ℕ) (last : Bool) → begins_with (bytes "none\n") (drop at s) ≡ true → field_at s at last ≡ NoNumber
+none_no_number : (s : List ℕ) (at : ℕ) (last : Bool) → begins_with (bytes "none\n") (drop at s) ≡ true → field_at s at last ≡ None
 unfolding digits_of field_at
 none_no_number s at last t = rw (begins_split (bytes "none\n") s at t).0 refl
 
-number_not_none : (s : List ℕ) (at : ℕ) (last : Bool) {n next : ℕ} → field_at s at last ≡ Value n next → begins_with (bytes "none\n") (drop at s) ≡ false
+number_not_none : (s : List ℕ) (at : ℕ) (last : Bool) {n next : ℕ} → field_at s at last ≡ Some (n, next) → begins_with (bytes "none\n") (drop at s) ≡ false
 number_not_none s at last e = go (begins_with (bytes "none\n") (drop at s)) refl
   where
     go : (t : Bool) → begins_with (bytes "none\n") (drop at s) ≡ t → t ≡ false
@@ -62,11 +57,11 @@ number_not_none s at last e = go (begins_with (bytes "none\n") (drop at s)) refl
     go false t = refl
 
 -- the place behind it is a later one
-pub field_ahead : (s : List ℕ) (at : ℕ) (last : Bool) {n next : ℕ} → field_at s at last ≡ Value n next → at < next
+pub field_ahead : (s : List ℕ) (at : ℕ) (last : Bool) {n next : ℕ} → field_at s at last ≡ Some (n, next) → at < next
 field_ahead s at last {n} {next} e = omega (arith, (field_split n at next last s e).end, length_field n last)
 
 -- behind the end of the input there is none
-none_behind : (s : List ℕ) (at : ℕ) (last : Bool) → length s ≤ at → field_at s at last ≡ NoNumber
+none_behind : (s : List ℕ) (at : ℕ) (last : Bool) → length s ≤ at → field_at s at last ≡ None
 unfolding digits_of field_at
 none_behind s at last h = rw (drop_of_length-le s {i = at} h) refl
 
@@ -109,7 +104,7 @@ numbers_back (suc k) n (m ∷ ns) s rest at line small h e =
     rw (comma_no_end s at e₁, e₁, e₂, both) (ap (found (n ∷ m ∷ ns)) (both_long t u at))
 
 first_number : (n : ℕ) (ns s rest : List ℕ) (at : ℕ) → n < 10 ^ 9 → drop at s ≡ items_text (n ∷ ns) ++ rest
-    → field_at s at (eqb (length ns) 0) ≡ Value n (at + length (field n (eqb (length ns) 0)))
+    → field_at s at (eqb (length ns) 0) ≡ Some (n, at + length (field n (eqb (length ns) 0)))
 unfolding items_text
 first_number n ns s rest at small e =
     let last = eqb (length ns) 0 in
@@ -143,18 +138,18 @@ there_same : (text : List ℕ → List ℕ) {ns ms s : List ℕ} {at next end : 
 there_same text e w = rw (← found_value e, ← found_place e) w
 
 -- one number or more
-abbrev Some : List ℕ → List ℕ → ℕ → ℕ → Type 0
-Some ns s at next = (1 ≤ length ns) × NumbersThere (items_text ns) ns s at next
+abbrev Several : List ℕ → List ℕ → ℕ → ℕ → Type 0
+Several ns s at next = (1 ≤ length ns) × NumbersThere (items_text ns) ns s at next
 
-some_same : {ns ms s : List ℕ} {at next end : ℕ} → found ns next ≡ found ms end → Some ns s at next → Some ms s at end
+some_same : {ns ms s : List ℕ} {at next end : ℕ} → found ns next ≡ found ms end → Several ns s at next → Several ms s at end
 some_same e w = rw (← found_value e, ← found_place e) w
 
-one_there : (s : List ℕ) (at : ℕ) {n next : ℕ} → field_at s at true ≡ Value n next → Some (n ∷ []) s at next
+one_there : (s : List ℕ) (at : ℕ) {n next : ℕ} → field_at s at true ≡ Some (n, next) → Several (n ∷ []) s at next
 one_there s at {n} {next} e =
     let w = field_split n at next true s e in
     (omega arith, record { bytes = rw (one_text n) w.text; end = rw (one_text n) w.end; small = (w.small, tt) })
 
-more_there : (s : List ℕ) (at next end : ℕ) {n : ℕ} {ns : List ℕ} → field_at s at false ≡ Value n next → Some ns s next end → Some (n ∷ ns) s at end
+more_there : (s : List ℕ) (at next end : ℕ) {n : ℕ} {ns : List ℕ} → field_at s at false ≡ Some (n, next) → Several ns s next end → Several (n ∷ ns) s at end
 more_there s at next end {n} {ns} e (some, w) =
     let v = field_split n at next false s e in
     let t = field n false in
@@ -167,7 +162,7 @@ more_there s at next end {n} {ns} e (some, w) =
       },
     )
 
-numbers_there : (k : ℕ) (s : List ℕ) (at line : ℕ) (ns : List ℕ) (next : ℕ) → numbers_at k s at line ≡ found ns next → Some ns s at next
+numbers_there : (k : ℕ) (s : List ℕ) (at line : ℕ) (ns : List ℕ) (next : ℕ) → numbers_at k s at line ≡ found ns next → Several ns s at next
 unfolding numbers_at
 numbers_there zero s at line ns next e = absurd (not_both e)
 numbers_there (suc k) s at line ns next e = go (numbers_there k s) (field_at s at true) refl e
@@ -175,11 +170,11 @@ numbers_there (suc k) s at line ns next e = go (numbers_there k s) (field_at s a
     more : Found (List ℕ)
     more = and_then (formed line (field_at s at false)) (λ n to. and_then (numbers_at k s to line) (λ ms end. found (n ∷ ms) end))
 
-    go : ((to line : ℕ) (ms : List ℕ) (end : ℕ) → numbers_at k s to line ≡ found ms end → Some ms s to end)
-        → (r : NumberRead) → field_at s at true ≡ r → last_or r more ≡ found ns next
-        → Some ns s at next
-    go behind (Value n to) p q = some_same q (one_there s at p)
-    go behind NoNumber p q =
+    go : ((to line : ℕ) (ms : List ℕ) (end : ℕ) → numbers_at k s to line ≡ found ms end → Several ms s to end)
+        → (r : Option (ℕ × ℕ)) → field_at s at true ≡ r → last_or r more ≡ found ns next
+        → Several ns s at next
+    go behind (Some (n, to)) p q = some_same q (one_there s at p)
+    go behind None p q =
         let u = then_found (formed line (field_at s at false)) _ q in
         let x = then_found (numbers_at k s u.place line) _ u.then in
         some_same x.then
@@ -225,14 +220,14 @@ numbers_refused (suc k) s at line r e = go (numbers_refused k s) (field_at s at 
     more : Found (List ℕ)
     more = and_then (formed line (field_at s at false)) (λ n to. and_then (numbers_at k s to line) (λ ms end. found (n ∷ ms) end))
 
-    unformed : (n : NumberRead) → formed line n ≡ refused r → r ≡ Malformed line
-    unformed (Value n to) q = absurd (not_both (sym q))
-    unformed NoNumber q = sym (refused_same q)
+    unformed : (n : Option (ℕ × ℕ)) → formed line n ≡ refused r → r ≡ Malformed line
+    unformed (Some (n, to)) q = absurd (not_both (sym q))
+    unformed None q = sym (refused_same q)
 
-    go : ((to line : ℕ) (q : Refusal) → numbers_at k s to line ≡ refused q → q ≡ Malformed line) → (n : NumberRead) → last_or n more ≡ refused r
+    go : ((to line : ℕ) (q : Refusal) → numbers_at k s to line ≡ refused q → q ≡ Malformed line) → (n : Option (ℕ × ℕ)) → last_or n more ≡ refused r
         → r ≡ Malformed line
-    go behind (Value n to) q = absurd (not_both (sym q))
-    go behind NoNumber q =
+    go behind (Some (n, to)) q = absurd (not_both (sym q))
+    go behind None q =
         then_refused (formed line (field_at s at false)) _ (unformed (field_at s at false)) (λ n to p.
         then_refused (numbers_at k s to line) _ (behind to line r) (λ ms end p' q'. absurd (not_both (sym q')))) q
 
@@ -253,23 +248,12 @@ pairs_refused s {r} = then_refused (pairs.read s 0 1) _ (λ e. inl (pairs_unread
     go list next false e = inr (sym (refused_same e))
 
 -- ---- the loop over the numbers
--- `count` numbers were read from `at` up to `to`, of which the array holds the first 32
-pub record Numbering (s : List ℕ) (at : ℕ) (list : List ℕ) (count to : ℕ) : Type 0 where
+-- numbers were read from `at` up to `to`
+pub record Numbering (s : List ℕ) (at : ℕ) (read : Pairs) (to : ℕ) : Type 0 where
   pub so_far : List ℕ
-  pub long : length so_far ≡ count
-  pub held : list ≡ pad_to 32 0 (take 32 so_far)
-  pub few : count ≤ to
-  pub rest : numbers_at (length s) s at 1 ≡ and_then (numbers_at (length s - count) s to 1) (λ ns end. found (so_far ++ ns) end)
-
-pub numbering_start : (s : List ℕ) (at : ℕ) → Numbering s at (replicate 32 0) 0 at
-numbering_start s at =
-    record {
-      so_far = [];
-      long = refl;
-      held = refl;
-      few = omega arith;
-      rest = rw (sub-zero (length s)) (sym (then_nothing (numbers_at (length s) s at 1)));
-    }
+  pub held : read ≡ kept so_far
+  pub few : length so_far ≤ to
+  pub rest : numbers_at (length s) s at 1 ≡ and_then (numbers_at (length s - length so_far) s to 1) (λ ns end. found (so_far ++ ns) end)
 
 -- one more number in the array, or behind it
 held_more : (ns : List ℕ) (n : ℕ) → set (pad_to 32 0 (take 32 ns)) (length ns) n ≡ pad_to 32 0 (take 32 (ns ++ (n ∷ [])))
@@ -285,93 +269,51 @@ held_more ns n = go (dec_lt (length ns) 32)
         few : length (take 32 ns) ≤ 32
         few = omega (arith, length-take 32 ns)
 
-module _ {s : List ℕ} {at : ℕ} {list : List ℕ} {count to : ℕ} (w : Numbering s at list count to) where
-  -- a number that the array has no slot for
-  pub none_stored : 32 ≤ count → (n : ℕ) → list ≡ set list count n
-  none_stored h n =
-      let few : length (take 32 w.so_far) ≤ 32 = omega (arith, length-take 32 w.so_far) in
-      sym (set_out list count n (omega (arith, ap length w.held ∙ length_pad 32 0 (take 32 w.so_far) few)))
+-- a list with one more number
+abbrev pub more_of : Pairs → ℕ → Pairs
+more_of read n = record { count = read.count + 1; list = set read.list read.count n }
 
-  stored : (n : ℕ) → set list count n ≡ pad_to 32 0 (take 32 (w.so_far ++ (n ∷ [])))
-  stored n = rw (w.held, ← w.long) (held_more w.so_far n)
+more_kept : (ns : List ℕ) (n : ℕ) → more_of (kept ns) n ≡ kept (ns ++ (n ∷ []))
+more_kept ns n = rw (held_more ns n, length-append ns (n ∷ [])) refl
+
+module _ {s : List ℕ} {at : ℕ} {read : Pairs} {to : ℕ} (w : Numbering s at read to) where
+  stored : (n : ℕ) → more_of read n ≡ kept (w.so_far ++ (n ∷ []))
+  stored n = rw w.held (more_kept w.so_far n)
 
   module _ (l : to < length s) where
     -- what is read next
     abbrev left : ℕ
-    left = length s - (count + 1)
+    left = length s - (length w.so_far + 1)
 
-    next_read : numbers_at (length s - count) s to 1
+    next_read : numbers_at (length s - length w.so_far) s to 1
         ≡ last_or (field_at s to true)
         (and_then (formed 1 (field_at s to false)) (λ n next. and_then (numbers_at left s next 1) (λ ns end. found (n ∷ ns) end)))
     unfolding numbers_at
-    next_read = let e : length s - count ≡ suc left = omega (arith, w.few) in rw e refl
+    next_read = let e : length s - length w.so_far ≡ suc left = omega (arith, w.few) in rw e refl
 
     -- the last number
-    pub numbering_last : {n next : ℕ} → field_at s to true ≡ Value n next
-        → record { read = Next next; count = count + 1; list = set list count n } ≡ pairs_read (numbers_at (length s) s at 1)
-    numbering_last {n} {next} e =
-        let many : length (w.so_far ++ (n ∷ [])) ≡ count + 1 = length-append w.so_far (n ∷ []) ∙ rw w.long refl in
-        rw (w.rest, next_read, e, many, stored n) refl
-
-    pub numbering_last_more : 32 ≤ count → {n next : ℕ} → field_at s to true ≡ Value n next
-        → record { read = Next next; count = count + 1; list = list } ≡ pairs_read (numbers_at (length s) s at 1)
-    numbering_last_more h {n} e = rw (none_stored h n) (numbering_last e)
+    pub numbering_last : {n next : ℕ} → field_at s to true ≡ Some (n, next) → Ok (more_of read n, next) ≡ pairs_read (numbers_at (length s) s at 1)
+    numbering_last {n} {next} e = rw (w.rest, next_read, e, stored n) refl
 
     -- a number with a comma behind it
-    pub numbering_next : {n next : ℕ} → field_at s to false ≡ Value n next → Numbering s at (set list count n) (count + 1) next
+    pub numbering_next : {n next : ℕ} → field_at s to false ≡ Some (n, next) → Numbering s at (more_of read n) next
     numbering_next {n} {next} e =
+        let long = length-append w.so_far (n ∷ []) in
         record {
           so_far = w.so_far ++ (n ∷ []);
-          long = length-append w.so_far (n ∷ []) ∙ rw w.long refl;
           held = stored n;
-          few = omega (arith, field_ahead s to false e);
+          few = omega (arith, long, field_ahead s to false e, w.few);
           rest =
-              w.rest
+              rw long
+              (w.rest
               ∙ rw (next_read, comma_no_end s to e, e) (then_then (numbers_at left s next 1) _ _)
-              ∙ then_same (numbers_at left s next 1) _ _ (λ ns end p. ap (λ (l : List ℕ). found l end) (sym (append_assoc w.so_far (n ∷ []) ns)));
+              ∙ then_same (numbers_at left s next 1) _ _ (λ ns end p. ap (λ (l : List ℕ). found l end) (sym (append_assoc w.so_far (n ∷ []) ns))));
         }
 
-    pub numbering_next_more : 32 ≤ count → {n next : ℕ} → field_at s to false ≡ Value n next → Numbering s at list (count + 1) next
-    numbering_next_more h {n} e = rw (none_stored h n) (numbering_next e)
-
     -- no number
-    pub numbering_none : field_at s to true ≡ NoNumber → field_at s to false ≡ NoNumber
-        → pairs_read (refused (Malformed 1)) ≡ pairs_read (numbers_at (length s) s at 1)
+    pub numbering_none : field_at s to true ≡ None → field_at s to false ≡ None → Err (Malformed 1) ≡ pairs_read (numbers_at (length s) s at 1)
     numbering_none e e' = rw (w.rest, next_read, e, e') refl
 
   -- the end of the input
-  pub numbering_end : length s ≤ to → pairs_read (refused (Malformed 1)) ≡ pairs_read (numbers_at (length s) s at 1)
-  numbering_end h = rw (w.rest, numbers_behind (length s - count) s to 1 h) refl
-
--- ---- the line
-module _ (s : List ℕ) where
-  -- its front
-  pub no_key : begins_with (bytes "pairs=") s ≡ false → pairs_read (refused (Malformed 1)) ≡ pairs_read (alone pairs s)
-  no_key e = rw e refl
-
-  pub word_read : begins_with (bytes "pairs=") s ≡ true → begins_with (bytes "none\n") (drop 6 s) ≡ true
-      → record { read = Next 11; count = 0; list = replicate 32 0 } ≡ pairs_read (pairs.read s 0 1)
-  word_read e e' = rw (e, e') refl
-
-  pub numbers_read : begins_with (bytes "pairs=") s ≡ true → begins_with (bytes "none\n") (drop 6 s) ≡ false
-      → pairs_read (numbers_at (length s) s 6 1) ≡ pairs_read (pairs.read s 0 1)
-  numbers_read e e' = rw (e, e') refl
-
-  -- its end
-  module _ {r : PairsRead} (e : r ≡ pairs_read (pairs.read s 0 1)) where
-    pub line_refused : {why : Refusal} → r.read ≡ Stopped why → pairs_read (refused why) ≡ pairs_read (alone pairs s)
-    line_refused q = rw (line_stopped (pairs.read s 0 1) r.read (ap (λ (x : PairsRead). x.read) e) q) refl
-
-    pub line_ends : {next : ℕ} → r.read ≡ Next next → length s ≤ next → r ≡ pairs_read (alone pairs s)
-    line_ends {next} q h = e ∙ go (pairs.read s 0 1) (sym (ap (λ (x : PairsRead). x.read) e) ∙ q)
-      where
-        go : (f : Found (List ℕ)) → line_read f ≡ Next next → pairs_read f ≡ pairs_read (ended pairs s f)
-        go (found list end) p = let same : end ≡ next = cc in rw (le-leb (length s) end (omega arith)) refl
-        go (refused why) p = refl
-
-    pub line_goes_on : {next : ℕ} → r.read ≡ Next next → next < length s → pairs_read (refused (Malformed 2)) ≡ pairs_read (alone pairs s)
-    line_goes_on {next} q h = go (pairs.read s 0 1) (sym (ap (λ (x : PairsRead). x.read) e) ∙ q)
-      where
-        go : (f : Found (List ℕ)) → line_read f ≡ Next next → pairs_read (refused (Malformed 2)) ≡ pairs_read (ended pairs s f)
-        go (found list end) p = let same : end ≡ next = cc in rw (lt-leb (length s) end (omega arith)) refl
-        go (refused why) p = let z : ◌≡◌ {A = ℕ} 0 1 = cc in absurd (omega arith)
+  pub numbering_end : length s ≤ to → Err (Malformed 1) ≡ pairs_read (numbers_at (length s) s at 1)
+  numbering_end h = rw (w.rest, numbers_behind (length s - length w.so_far) s to 1 h) refl

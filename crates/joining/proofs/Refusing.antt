@@ -1,4 +1,5 @@
 -- Which lists are refused, and how: each test is what the request says of the numbers, and the tests come in its order.
+use Rattle.std.specs.Prelude.{Err}
 use Prim.Native.Nat.{ℕ, ◌+◌, ◌/◌, ◌%◌, ◌<◌}
 use native.Mathlib.Omega.{arith}
 use mathlib.Core.Path.{◌≡◌, refl, sym, ap, ◌∙◌}
@@ -10,9 +11,8 @@ use lib.Dec.{leb, eqb}
 use borrow.Author.Tests.{eqb-false, eq-eqb, leb-true, le-leb}
 use Rattle.reply.specs.declared.Refusal.{Refusal}
 use Rattle.reply.specs.declared.Refusal.TheVariants.{BadPairs, UnequalStarts, TooLarge}
-use Rattle.reply.specs.declared.Checked.TheVariants.{Passed, Refused}
 use Rattle.reply.specs.Refusal.{number_of}
-use Rattle.reply.specs.Respond.{Outcome, refusal, Answered, written_if}
+use Rattle.reply.specs.Respond.{Outcome, refusal, Answered, written_if, Passed}
 use Rattle.form.specs.Form.{also}
 use Rattle.net.specs.declared.Net.{Net}
 use Rattle.net.specs.Net.{net_card}
@@ -125,7 +125,7 @@ apart r q n e = let same : r ≡ q = cc in absurd (eqb-false (number_of r) (numb
 
 abbrev outcome : Bool → Bool → Bool → List ℕ → Outcome
 outcome x y z text =
-    written_if (also (cond x Passed (Refused BadPairs)) (also (cond y Passed (Refused UnequalStarts)) (cond z Passed (Refused TooLarge)))) text
+    written_if (also (cond x Passed (Err BadPairs)) (also (cond y Passed (Err UnequalStarts)) (cond z Passed (Err TooLarge)))) text
 
 in_order : {X Y Z : Type 0} (text : List ℕ) (x y z : Bool) → (x ≡ true) ↔ X → (y ≡ true) ↔ Y → (X → (z ≡ true) ↔ Z)
     → ((outcome x y z text ≡ refusal BadPairs) ↔ (X → ⊥))

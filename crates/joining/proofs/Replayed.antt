@@ -11,7 +11,7 @@ use lib.ListN.{length, get_or, length-append, get_or-append}
 use lib.Seq.{ext_get_or, get_or-append-add}
 use Rattle.laws.specs.Each.{Each, each_map}
 use Rattle.laws.specs.Slots.{first_of, length_first, get_d_first}
-use Rattle.reply.specs.declared.Checked.TheVariants.{Passed}
+use Rattle.reply.specs.Respond.{Passed}
 use Rattle.net.specs.declared.Net.{Net}
 use Rattle.run.specs.declared.Firing.{Firing}
 use Rattle.run.specs.declared.Run.{Run}

@@ -8,7 +8,7 @@ use mathlib.Core.Option.{Option}
 use lib.ListN.{length, get_or}
 use Rattle.laws.specs.Each.{each_map}
 use Rattle.laws.specs.Slots.{pad_to, first_pad}
-use Rattle.reply.specs.declared.Checked.TheVariants.{Passed}
+use Rattle.reply.specs.Respond.{Passed}
 use Rattle.form.proofs.Found.{also_second}
 use Rattle.net.specs.declared.Net.{Net}
 use Rattle.net.specs.Net.{net_card}

@@ -6,7 +6,7 @@ use mathlib.Core.Path.{◌≡◌}
 use mathlib.Core.Logic.{⊎_elim}
 use mathlib.Core.List.{List, []}
 use lib.ListN.{length}
-use Rattle.reply.specs.declared.Checked.TheVariants.{Passed}
+use Rattle.reply.specs.Respond.{Passed}
 use Rattle.form.proofs.Card.{alone_found}
 use Rattle.net.specs.declared.Net.{Net}
 use Rattle.net.specs.Net.{takes_in, gives_in, net_card}

@@ -1,12 +1,10 @@
 -- Document 02, "Sorter and changer on one drawing": two nets joined by a list of place numbers, over values and over cards.
-use Rattle.std.specs.Prelude.{ℕ, zero, suc, ◌+◌, ◌%◌, Bool, true, false, not, cond, ◌&&◌, ◌||◌, List, [], ◌∷◌, ◌++◌, map, length, get_or, replicate, leb, ltb, eqb}
+use Rattle.std.specs.Prelude.{ℕ, zero, suc, ◌+◌, ◌%◌, Bool, true, false, not, cond, ◌&&◌, ◌||◌, List, [], ◌∷◌, ◌++◌, map, length, get_or, replicate, leb, ltb, eqb, Err}
 use Rattle.std.proofs.Math.Option.{Option, none, some}
 use Rattle.laws.specs.Arrays.{filled}
 use Rattle.laws.specs.Slots.{first_of, pad_to}
 use Rattle.reply.specs.declared.Refusal.TheVariants.{BadPairs, UnequalStarts, TooLarge}
-use Rattle.reply.specs.declared.Checked.{Checked}
-use Rattle.reply.specs.declared.Checked.TheVariants.{Passed, Refused}
-use Rattle.reply.specs.Respond.{Outcome, written_if}
+use Rattle.reply.specs.Respond.{Outcome, written_if, Checked, Passed}
 use Rattle.form.specs.Form.{Found, also, front, alone, follow}
 use Rattle.net.specs.declared.Net.{Net}
 use Rattle.net.specs.Net.{Row, no_row, rows_of, to_net, net_card}
@@ -89,15 +87,15 @@ joined_net a b vs =
 -- "12 for an odd list, a pair naming no place or a place twice on its side"
 abbrev pub pairs_checked : ℕ → ℕ → List ℕ → Checked
 pairs_checked places places' list =
-    cond (eqb (length list % 2) 0 && distinct_places places (firsts (pairs_of list)) && distinct_places places' (seconds (pairs_of list))) Passed (Refused BadPairs)
+    cond (eqb (length list % 2) 0 && distinct_places places (firsts (pairs_of list)) && distinct_places places' (seconds (pairs_of list))) Passed (Err BadPairs)
 
 -- "13 for paired places with unequal starts"
 abbrev pub starts_checked : List ℕ → List ℕ → List ℕ → Checked
-starts_checked start start' list = cond (equal_starts start start' (pairs_of list)) Passed (Refused UnequalStarts)
+starts_checked start start' list = cond (equal_starts start start' (pairs_of list)) Passed (Err UnequalStarts)
 
 -- "14 for a joined net above 16 places or 32 transitions"
 abbrev pub size_checked : Net → Checked
-size_checked j = cond (leb j.places 16 && leb j.transitions 32) Passed (Refused TooLarge)
+size_checked j = cond (leb j.places 16 && leb j.transitions 32) Passed (Err TooLarge)
 
 -- "in this order"
 abbrev pub join_checked : Net → Net → List ℕ → Checked

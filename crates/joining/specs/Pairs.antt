@@ -1,18 +1,16 @@
 -- The line `pairs` behind two net cards: the word `none`, or one or more numbers joined by commas. Numbers may be any, and as many as stand there.
-use Rattle.std.specs.Prelude.{ℕ, zero, suc, ◌+◌, true, false, cond, List, [], ◌∷◌, length, drop}
+use Rattle.std.specs.Prelude.{ℕ, zero, suc, ◌+◌, true, false, cond, List, [], ◌∷◌, length, drop, None, Option, Some}
 use Rattle.reply.specs.declared.Refusal.TheVariants.{Malformed}
-use Rattle.reply.specs.declared.Checked.TheVariants.{Passed}
-use Rattle.text.specs.declared.NumberRead.{NumberRead}
-use Rattle.text.specs.declared.NumberRead.TheVariants.{Value, NoNumber}
+use Rattle.reply.specs.Respond.{Passed}
 use Rattle.text.specs.Key.{bytes, begins_with}
 use Rattle.text.specs.Number.{field_at}
 use Rattle.form.specs.Form.{Found, found, refused, and_then, Form, keyed}
 use Rattle.form.specs.Line.{formed, items_text}
 
 -- the number that the line ends with, or what is read where there is none
-abbrev pub last_or : NumberRead → Found (List ℕ) → Found (List ℕ)
-last_or (Value n next) more = found (n ∷ []) next
-last_or NoNumber more = more
+abbrev pub last_or : Option (ℕ × ℕ) → Found (List ℕ) → Found (List ℕ)
+last_or (Some (n, next)) more = found (n ∷ []) next
+last_or None more = more
 
 -- numbers with commas between them and the line's end behind the last, k at most
 unfoldable pub numbers_at : ℕ → List ℕ → ℕ → ℕ → Found (List ℕ)

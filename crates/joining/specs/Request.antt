@@ -1,12 +1,11 @@
 -- Document 02, "Sorter and changer on one drawing", as statements, each under its sentence; proofs/Request.antt proves each of them under the same name in
 -- small letters.
-use Rattle.std.specs.Prelude.{ℕ, ◌+◌, ◌^◌, ◌≤◌, ◌<◌, ◌≡◌, ◌↔◌, List, [], ◌++◌, map, length}
+use Rattle.std.specs.Prelude.{ℕ, ◌+◌, ◌^◌, ◌≤◌, ◌<◌, ◌≡◌, ◌↔◌, List, [], ◌++◌, map, length, Err}
 use Rattle.laws.specs.Each.{Each}
 use Rattle.laws.specs.Slots.{first_of}
 use Rattle.reply.specs.declared.Refusal.{Refusal}
 use Rattle.reply.specs.declared.Refusal.TheVariants.{BadPairs, UnequalStarts, TooLarge}
-use Rattle.reply.specs.declared.Checked.TheVariants.{Passed, Refused}
-use Rattle.reply.specs.Respond.{answer, refusal, Answered}
+use Rattle.reply.specs.Respond.{answer, refusal, Answered, Passed}
 use Rattle.reply.specs.Demanded.{Demanded}
 use Rattle.form.specs.Form.{found, refused, alone}
 use Rattle.form.specs.Line.{writable}
@@ -45,8 +44,8 @@ JoinedParts = (a b j : Net) (list : List ℕ) → Joins a b list j → OnOneDraw
 abbrev pub RefusedInOrder : Type 0
 RefusedInOrder =
     (a b : Net) (list : List ℕ)
-    → ((e : Refusal) → net_card.check a 1 ≡ Refused e → join_values a b list ≡ refusal e)
-    × ((e : Refusal) → net_card.check a 1 ≡ Passed → net_card.check b 1 ≡ Refused e → join_values a b list ≡ refusal e)
+    → ((e : Refusal) → net_card.check a 1 ≡ Err e → join_values a b list ≡ refusal e)
+    × ((e : Refusal) → net_card.check a 1 ≡ Passed → net_card.check b 1 ≡ Err e → join_values a b list ≡ refusal e)
     × (net_card.check a 1 ≡ Passed → net_card.check b 1 ≡ Passed
     → ((join_values a b list ≡ refusal BadPairs) ↔ (Paired a.places b.places list → ⊥))
     × ((join_values a b list ≡ refusal UnequalStarts) ↔ (Paired a.places b.places list × (EqualStarts a b list → ⊥)))

@@ -1,5 +1,5 @@
 -- The cases of document 02, "Sorter and changer on one drawing": one list, and one check that is computed over all of it.
-use Rattle.std.specs.Prelude.{ℕ, ◌≡◌, refl, true, List, [], ◌∷◌, ◌++◌, replicate, set}
+use Rattle.std.specs.Prelude.{ℕ, ◌≡◌, refl, true, List, [], ◌∷◌, ◌++◌, replicate, set, None}
 use Rattle.laws.specs.Arrays.{filled}
 use Rattle.laws.specs.Slots.{first_of, pad_to}
 use Rattle.reply.specs.declared.Refusal.{Refusal}
@@ -9,7 +9,6 @@ use Rattle.text.specs.Key.{bytes}
 use Rattle.text.specs.Decimal.{digits, width, decimal}
 use Rattle.form.specs.Form.{texts, lines_of, checks}
 use Rattle.form.specs.Line.{items_text, all_ranged}
-use Rattle.net.specs.declared.Latest.TheVariants.{Unbounded}
 use Rattle.net.specs.declared.Net.{Net}
 use Rattle.net.specs.Net.{take_of, give_of, rows_of}
 use Rattle.operations.specs.Starred.{Case, row_for, net_for, net_a, net_b, same_bytes, same_outcome, cases_hold}
@@ -17,7 +16,7 @@ use Rattle.joining.specs.Joining.{pairs_of, among, distinct_places, equal_starts
 
 -- one place, one transition that takes and gives it
 net_f : Net
-net_f = net_for 9 (1 ∷ []) (row_for 0 Unbounded (1 ∷ []) (1 ∷ []) ∷ [])
+net_f = net_for 9 (1 ∷ []) (row_for 0 None (1 ∷ []) (1 ∷ []) ∷ [])
 
 -- net A with something in the slots past its places and transitions
 junk_a : Net
@@ -34,7 +33,7 @@ junk_a =
 
 -- so many places with a token and transitions that take none
 plain : ℕ → ℕ → Net
-plain places transitions = net_for 3 (replicate places 1) (replicate transitions (row_for 0 Unbounded (replicate places 0) (replicate places 0)))
+plain places transitions = net_for 3 (replicate places 1) (replicate transitions (row_for 0 None (replicate places 0) (replicate places 0)))
 
 joins : Net → Net → List ℕ → List ℕ → Case
 joins a b list text = record { comes_to = join_values a b list; should = answer text }
@@ -65,7 +64,7 @@ joining_cases =
     ∷ refuses net_a net_b (replicate 40 0) BadPairs
     ∷ refuses (plain 16 1) (plain 1 1) [] TooLarge
     ∷ refuses (plain 1 17) (plain 1 16) [] TooLarge
-    ∷ refuses (plain 1 17) (net_for 3 (2 ∷ []) (replicate 16 (row_for 0 Unbounded [] []))) (0 ∷ 0 ∷ []) UnequalStarts
+    ∷ refuses (plain 1 17) (net_for 3 (2 ∷ []) (replicate 16 (row_for 0 None [] []))) (0 ∷ 0 ∷ []) UnequalStarts
     ∷ refuses (plain 17 1) net_a (7 ∷ []) (OutOfRange 2)
     ∷ refuses net_a (plain 1 33) (7 ∷ []) (OutOfRange 3)
     ∷ []

@@ -7,3 +7,4 @@ pub mod Writing
 pub mod Differences
 pub mod Division
 pub mod Sums
+pub mod Pairs

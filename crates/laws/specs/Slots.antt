@@ -36,6 +36,13 @@ module _ {ℓ} {A : Type ℓ} where
   get_d_first (suc n) d (a ∷ l) zero h = refl
   get_d_first (suc n) d (a ∷ l) (suc i) h = get_d_first n d l i (le_of_suc-le-suc h)
 
+  -- within the list these are its front
+  pub first_take : (n : ℕ) (d : A) (l : List A) → n ≤ length l → take n l ≡ first_of n d l
+  unfolding first_of
+  first_take zero d l h = refl
+  first_take (suc n) d [] h = absurd (not-suc-le-zero h)
+  first_take (suc n) d (a ∷ l) h = ap (λ (k : List A). a ∷ k) (first_take n d l (le_of_suc-le-suc h))
+
   -- lists that agree in the first n slots
   pub first_same : (n : ℕ) (d : A) (l m : List A) → ((i : ℕ) → i < n → get_or l i d ≡ get_or m i d) → first_of n d l ≡ first_of n d m
   first_same n d l m h =

@@ -7,10 +7,10 @@ ghost use Rattle.reply.specs.Respond.{output_of};
 ghost use Rattle.open_run.specs.Open.{wait_of, fire_of, close_of, closing};
 
 use open_run::{Entered, OpenRun};
-use reply::{Checked, Reply};
+use reply::Refusal;
 
 // Enters a wait.
-pub fn wait(run: &mut OpenRun, parts: u32) -> Checked
+pub fn wait(run: &mut OpenRun, parts: u32) -> Result<(), Refusal>
     ensures { (result ≡ (wait_of run.old parts).checked) × (run.new ≡ (wait_of run.old parts).run) }
 {
     let s = entering::enter_wait(*run, parts);
@@ -19,7 +19,7 @@ pub fn wait(run: &mut OpenRun, parts: u32) -> Checked
 }
 
 // Enters a firing.
-pub fn fire(run: &mut OpenRun, t: u32) -> Checked
+pub fn fire(run: &mut OpenRun, t: u32) -> Result<(), Refusal>
     ensures { (result ≡ (fire_of run.old t).checked) × (run.new ≡ (fire_of run.old t).run) }
 {
     let s = entering::enter_fire(*run, t);
@@ -28,7 +28,7 @@ pub fn fire(run: &mut OpenRun, t: u32) -> Checked
 }
 
 // Closes a run with a rest: its card.
-pub fn close<'r, 'o>(run: &'r mut OpenRun, rest: u32, out: &'o mut [u8]) -> Reply
+pub fn close<'r, 'o>(run: &'r mut OpenRun, rest: u32, out: &'o mut [u8]) -> Result<usize, Refusal>
     ensures { (result ≡ (closing run.old rest out.old).reply)
         × (run.new ≡ (closing run.old rest out.old).run)
         × (out.new ≡ output_of (close_of run.old rest) out.old) }

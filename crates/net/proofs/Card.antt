@@ -1,5 +1,7 @@
 -- The net card is a format: each of its lines is one, and the counts of its second and third line bound how many follow. A number never begins
 -- like the word for no upper bound, since the word's first byte is no digit.
+use Rattle.reply.specs.Respond.{Passed}
+use Rattle.std.specs.Prelude.{Err, None, Option, Some}
 use Prim.Native.Nat.{ℕ, ◌+◌, ◌-◌, ◌≤◌, ◌<◌, min}
 use native.Mathlib.Nat.{min-le_right, min-eq_left}
 use native.Mathlib.Omega.{arith}
@@ -13,9 +15,7 @@ use Rattle.laws.specs.Each.{each_append, each_image, each_replicate, each_at}
 use Rattle.laws.specs.Slots.{first_of, pad_to, length_first, length_pad, get_d_first}
 use Rattle.reply.specs.declared.Refusal.{Refusal}
 use Rattle.reply.specs.declared.Refusal.TheVariants.{OutOfRange, LatestBelowEarliest, AnotherSheet}
-use Rattle.reply.specs.declared.Checked.TheVariants.{Passed, Refused}
 use Rattle.reply.specs.Refusal.{position_of}
-use Rattle.text.specs.declared.NumberRead.TheVariants.{Value, NoNumber}
 use Rattle.text.specs.Key.{bytes, begins_with}
 use Rattle.text.specs.Number.{digits_of, field_at}
 use Rattle.text.specs.Decimal.{field}
@@ -32,19 +32,17 @@ use Rattle.form.proofs.Places.{OwnLine, line_placed, field_own}
 use Rattle.form.proofs.Format.{keyed_format, pair_format, held_format, times_format, ranged_format, items_format, counted_format}
 use Rattle.form.proofs.Sheets.{sheet_line_format, sheet_refused}
 use Rattle.form.proofs.Card.{read_back, passes_exactly}
-use Rattle.net.specs.declared.Latest.{Latest}
-use Rattle.net.specs.declared.Latest.TheVariants.{Unbounded, Ticks}
 use Rattle.net.specs.declared.Net.{Net}
 use Rattle.net.specs.Net.{latest_checked, latest, weights, Row, to_row, from_row, row, no_row, no_transition, starts, rows, body, counted_lines, net_lines, rows_of}
 use Rattle.net.specs.Net.{to_net, from_net, net_card}
 use Rattle.net.proofs.Rows.{Full, row_there, rows_back}
 
 -- where the word stands there is no number
-word_no_number : (s : List ℕ) (at : ℕ) → begins_with (bytes "inf\n") (drop at s) ≡ true → field_at s at true ≡ NoNumber
+word_no_number : (s : List ℕ) (at : ℕ) → begins_with (bytes "inf\n") (drop at s) ≡ true → field_at s at true ≡ None
 unfolding digits_of field_at
 word_no_number s at t = rw (begins_split (bytes "inf\n") s at t).0 refl
 
-pub number_no_word : (n at next : ℕ) (s : List ℕ) → field_at s at true ≡ Value n next → begins_with (bytes "inf\n") (drop at s) ≡ false
+pub number_no_word : (n at next : ℕ) (s : List ℕ) → field_at s at true ≡ Some (n, next) → begins_with (bytes "inf\n") (drop at s) ≡ false
 number_no_word n at next s e = go (begins_with (bytes "inf\n") (drop at s)) refl
   where
     go : (t : Bool) → begins_with (bytes "inf\n") (drop at s) ≡ t → begins_with (bytes "inf\n") (drop at s) ≡ false
@@ -52,52 +50,52 @@ number_no_word n at next s e = go (begins_with (bytes "inf\n") (drop at s)) refl
     go false t = t
 
 module _ (earliest : ℕ) where
-  latest_back : (l : Latest) (s rest : List ℕ) (at line : ℕ) → latest_checked earliest l line ≡ Passed → drop at s ≡ (latest earliest).text l ++ rest
+  latest_back : (l : Option ℕ) (s rest : List ℕ) (at line : ℕ) → latest_checked earliest l line ≡ Passed → drop at s ≡ (latest earliest).text l ++ rest
       → (latest earliest).read s at line ≡ found l (at + length ((latest earliest).text l))
-  latest_back Unbounded s rest at line p e = rw (ap (begins_with (bytes "inf\n")) e ∙ begins_text (bytes "inf\n") rest) refl
-  latest_back (Ticks n) s rest at line p e =
+  latest_back None s rest at line p e = rw (ap (begins_with (bytes "inf\n")) e ∙ begins_text (bytes "inf\n") rest) refl
+  latest_back (Some n) s rest at line p e =
       let small =
-      ranged_small 0 1000 (lit< tt) n line (also_first (ranged 0 1000 n line) (cond (ltb n earliest) (Refused (LatestBelowEarliest line)) Passed) p) in
+      ranged_small 0 1000 (lit< tt) n line (also_first (ranged 0 1000 n line) (cond (ltb n earliest) (Err (LatestBelowEarliest line)) Passed) p) in
       let q = field_text n at true s rest small e in
       rw (number_no_word n at (at + length (field n true)) s q, q, p) refl
 
-  ticks_was : (l : Latest) (s : List ℕ) (at next line : ℕ) → and_then (formed line (field_at s at true))
-      (λ n to. found_if (latest_checked earliest (Ticks n) line) (Ticks n) to) ≡ found l next
+  ticks_was : (l : Option ℕ) (s : List ℕ) (at next line : ℕ) → and_then (formed line (field_at s at true))
+      (λ n to. found_if (latest_checked earliest (Some n) line) (Some n) to) ≡ found l next
       → WasRead (latest earliest) l s at next line
   ticks_was l s at next line e =
       let u = then_found (formed line (field_at s at true)) _ e in
-      let c = latest_checked earliest (Ticks u.value) line in
+      let c = latest_checked earliest (Some u.value) line in
       let w = field_split u.value at u.place true s (formed_value line (field_at s at true) u.first) in
       was_same (latest earliest) (judged_found c _ u.place u.then)
       (record { bytes = w.text; end = w.end; passed = judged_passed c _ u.place u.then; cleaned = refl })
 
-  latest_was : (l : Latest) (s : List ℕ) (at next line : ℕ) → (latest earliest).read s at line ≡ found l next → WasRead (latest earliest) l s at next line
+  latest_was : (l : Option ℕ) (s : List ℕ) (at next line : ℕ) → (latest earliest).read s at line ≡ found l next → WasRead (latest earliest) l s at next line
   latest_was l s at next line = go (begins_with (bytes "inf\n") (drop at s)) refl
     where
       go : (t : Bool) → begins_with (bytes "inf\n") (drop at s) ≡ t
-          → cond t (found Unbounded (at + length (bytes "inf\n")))
-          (and_then (formed line (field_at s at true)) (λ n to. found_if (latest_checked earliest (Ticks n) line) (Ticks n) to)) ≡ found l next
+          → cond t (found None (at + length (bytes "inf\n")))
+          (and_then (formed line (field_at s at true)) (λ n to. found_if (latest_checked earliest (Some n) line) (Some n) to)) ≡ found l next
           → WasRead (latest earliest) l s at next line
-      go true t e = was_same (latest earliest) e (word_was (latest earliest) Unbounded s at line refl refl t)
+      go true t e = was_same (latest earliest) e (word_was (latest earliest) None s at line refl refl t)
       go false t e = ticks_was l s at next line e
 
-  latest_near : (l : Latest) (s : List ℕ) (at next line : ℕ) → (latest earliest).read s at line ≡ found l next → next ≤ at + 10
+  latest_near : (l : Option ℕ) (s : List ℕ) (at next line : ℕ) → (latest earliest).read s at line ≡ found l next → next ≤ at + 10
   latest_near l s at next line = go (begins_with (bytes "inf\n") (drop at s))
     where
-      go : (t : Bool) → cond t (found Unbounded (at + length (bytes "inf\n")))
-          (and_then (formed line (field_at s at true)) (λ n to. found_if (latest_checked earliest (Ticks n) line) (Ticks n) to)) ≡ found l next
+      go : (t : Bool) → cond t (found None (at + length (bytes "inf\n")))
+          (and_then (formed line (field_at s at true)) (λ n to. found_if (latest_checked earliest (Some n) line) (Some n) to)) ≡ found l next
           → next ≤ at + 10
       go true e = omega (arith, found_place e)
       go false e =
           let u = then_found (formed line (field_at s at true)) _ e in
           let h = field_near u.value at u.place true s (formed_value line (field_at s at true) u.first) in
-          omega (arith, h.0, found_place (judged_found (latest_checked earliest (Ticks u.value) line) _ u.place u.then))
+          omega (arith, h.0, found_place (judged_found (latest_checked earliest (Some u.value) line) _ u.place u.then))
 
   latest_own : OwnLine (latest_checked earliest)
-  latest_own Unbounded line r = λ e. let z : ◌≡◌ {A = ℕ} 0 1 = cc in absurd (omega arith)
-  latest_own (Ticks n) line r = go (leb 0 n && leb n 1000) (ltb n earliest)
+  latest_own None line r = λ e. let z : ◌≡◌ {A = ℕ} 0 1 = cc in absurd (omega arith)
+  latest_own (Some n) line r = go (leb 0 n && leb n 1000) (ltb n earliest)
     where
-      go : (a b : Bool) → also (cond a Passed (Refused (OutOfRange line))) (cond b (Refused (LatestBelowEarliest line)) Passed) ≡ Refused r
+      go : (a b : Bool) → also (cond a Passed (Err (OutOfRange line))) (cond b (Err (LatestBelowEarliest line)) Passed) ≡ Err r
           → position_of r ≡ line
       go true true e = let same : r ≡ LatestBelowEarliest line = cc in ap position_of same
       go true false e = let z : ◌≡◌ {A = ℕ} 0 1 = cc in absurd (omega arith)
@@ -107,10 +105,10 @@ module _ (earliest : ℕ) where
   latest_placed = line_placed (λ r s at line. go r s at line (begins_with (bytes "inf\n") (drop at s))) (λ l. refl)
     where
       go : (r : Refusal) (s : List ℕ) (at line : ℕ) (t : Bool)
-          → cond t (found Unbounded (at + length (bytes "inf\n")))
-          (and_then (formed line (field_at s at true)) (λ n to. found_if (latest_checked earliest (Ticks n) line) (Ticks n) to)) ≡ refused r → position_of r ≡ line
+          → cond t (found None (at + length (bytes "inf\n")))
+          (and_then (formed line (field_at s at true)) (λ n to. found_if (latest_checked earliest (Some n) line) (Some n) to)) ≡ refused r → position_of r ≡ line
       go r s at line true e = absurd (not_both (sym e))
-      go r s at line false e = field_own (latest_checked earliest) Ticks latest_own line (field_at s at true) e
+      go r s at line false e = field_own (latest_checked earliest) Some latest_own line (field_at s at true) e
 
   latest_format : {P : Type 0} → Format P (latest earliest) 10 1
   latest_format =

@@ -1,4 +1,5 @@
 -- What was read back is the same net: cleaning changes no slot that counts. And nets that agree in all that counts have the same card.
+use Rattle.reply.specs.Respond.{Passed}
 use Prim.Native.Nat.{ℕ, ◌<◌, ◌≤◌, min}
 use native.Mathlib.Nat.{min-eq_left}
 use native.Mathlib.Omega.{arith}
@@ -7,7 +8,6 @@ use mathlib.Core.List.{List, ◌++◌, map}
 use lib.ListN.{length, get_or, replicate, get_or-map}
 use Rattle.laws.specs.Arrays.{filled}
 use Rattle.laws.specs.Slots.{first_of, pad_to, get_d_kept, get_d_changed}
-use Rattle.reply.specs.declared.Checked.TheVariants.{Passed}
 use Rattle.text.specs.Key.{bytes}
 use Rattle.form.specs.Form.{found, keyed}
 use Rattle.form.specs.Line.{ranged, number, items}

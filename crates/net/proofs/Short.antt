@@ -1,24 +1,23 @@
 -- How long the card of a net can be.
+use Rattle.reply.specs.Respond.{Passed}
+use Rattle.std.specs.Prelude.{None, Option, Some}
 use Prim.Native.Nat.{ℕ, ◌+◌, ◌≤◌}
 use native.Mathlib.Omega.{arith}
 use mathlib.Core.Path.{◌≡◌}
 use mathlib.Core.List.{List}
 use lib.ListN.{length}
 use lib.Dec.{lit<, lit≤}
-use Rattle.reply.specs.declared.Checked.TheVariants.{Passed}
 use Rattle.text.specs.Key.{bytes}
 use Rattle.form.specs.Form.{keyed}
 use Rattle.form.specs.Line.{ranged, items}
 use Rattle.form.proofs.Found.{also_first}
 use Rattle.form.proofs.Short.{Short, keyed_short, chain_short, held_short, times_short, number_short, items_short}
-use Rattle.net.specs.declared.Latest.{Latest}
-use Rattle.net.specs.declared.Latest.TheVariants.{Unbounded, Ticks}
 use Rattle.net.specs.declared.Net.{Net}
 use Rattle.net.specs.Net.{latest, to_row, from_row, row, no_row, to_net, from_net, net_card}
 
-latest_few : (earliest : ℕ) (l : Latest) (line : ℕ) → (latest earliest).check l line ≡ Passed → length ((latest earliest).text l) ≤ 5
-latest_few earliest Unbounded line p = omega arith
-latest_few earliest (Ticks n) line p = (number_short 4 0 1000 (lit≤ tt) (lit≤ tt) (lit< tt)).few n line (also_first (ranged 0 1000 n line) _ p)
+latest_few : (earliest : ℕ) (l : Option ℕ) (line : ℕ) → (latest earliest).check l line ≡ Passed → length ((latest earliest).text l) ≤ 5
+latest_few earliest None line p = omega arith
+latest_few earliest (Some n) line p = (number_short 4 0 1000 (lit≤ tt) (lit≤ tt) (lit< tt)).few n line (also_first (ranged 0 1000 n line) _ p)
 
 latest_short : (earliest : ℕ) → Short (latest earliest) 5
 latest_short earliest = record { few = latest_few earliest }

@@ -1,4 +1,5 @@
 -- A net is checked as its card is read, a number too long to write standing as the largest that can be written.
+use Rattle.std.specs.Prelude.{Err, None, Option, Some}
 use Prim.Native.Nat.{ℕ, ◌+◌, ◌*◌, ◌≤◌, min}
 use mathlib.Core.Path.{◌≡◌, refl, sym, ap, ◌∙◌}
 use mathlib.Core.Bool.{true}
@@ -7,7 +8,6 @@ use lib.ListN.{length, get_or, drop, replicate, get_or-map}
 use lib.Dec.{lit<}
 use Rattle.laws.specs.Arrays.{filled, filled_same, filled_mapped}
 use Rattle.reply.specs.declared.Refusal.TheVariants.{OutOfRange}
-use Rattle.reply.specs.declared.Checked.TheVariants.{Refused}
 use Rattle.text.specs.Key.{bytes, begins_with}
 use Rattle.text.specs.Decimal.{field}
 use Rattle.text.proofs.KeyLaws.{begins_text}
@@ -18,8 +18,6 @@ use Rattle.form.specs.Inverse.{Told}
 use Rattle.form.proofs.Format.{times_format, ranged_format}
 use Rattle.form.proofs.Writable.{writable_small, judged_writable, ranged_long, keyed_told, pair_told, held_told, exactly_told, ranged_told, items_told}
 use Rattle.form.proofs.Writable.{counted_told}
-use Rattle.net.specs.declared.Latest.{Latest}
-use Rattle.net.specs.declared.Latest.TheVariants.{Unbounded, Ticks}
 use Rattle.net.specs.declared.Net.{Net}
 use Rattle.net.specs.Net.{latest_checked, latest, weights, Row, to_row, from_row, row, no_row, body, no_transition, row_at, rows_of}
 use Rattle.net.specs.Net.{to_net, from_net, net_card}
@@ -28,16 +26,16 @@ use Rattle.net.proofs.Card.{number_no_word}
 
 -- ---- the lines
 module _ (earliest : ℕ) where
-  latest_long : (n line : ℕ) → 999999999 ≤ n → latest_checked earliest (Ticks n) line ≡ Refused (OutOfRange line)
+  latest_long : (n line : ℕ) → 999999999 ≤ n → latest_checked earliest (Some n) line ≡ Err (OutOfRange line)
   latest_long n line h = rw (ranged_long 0 1000 (lit< tt) n line h) refl
 
-  latest_read : (l : Latest) (s rest : List ℕ) (at line : ℕ) → drop at s ≡ (latest earliest).text (writable_latest l) ++ rest
+  latest_read : (l : Option ℕ) (s rest : List ℕ) (at line : ℕ) → drop at s ≡ (latest earliest).text (writable_latest l) ++ rest
       → (latest earliest).read s at line ≡ found_if (latest_checked earliest l line) l (at + length ((latest earliest).text (writable_latest l)))
-  latest_read Unbounded s rest at line e = rw (ap (begins_with (bytes "inf\n")) e ∙ begins_text (bytes "inf\n") rest) refl
-  latest_read (Ticks n) s rest at line e =
+  latest_read None s rest at line e = rw (ap (begins_with (bytes "inf\n")) e ∙ begins_text (bytes "inf\n") rest) refl
+  latest_read (Some n) s rest at line e =
       let next = at + length (field (writable n) true) in
       let q = field_text (writable n) at true s rest (writable_small n) e in
-      rw (number_no_word (writable n) at next s q, q) (judged_writable (λ m. latest_checked earliest (Ticks m)) Ticks OutOfRange latest_long n line next)
+      rw (number_no_word (writable n) at next s q, q) (judged_writable (λ m. latest_checked earliest (Some m)) Some OutOfRange latest_long n line next)
 
   latest_told : Told (latest earliest) writable_latest
   latest_told = record { told = latest_read }

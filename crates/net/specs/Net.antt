@@ -1,39 +1,35 @@
 -- Document 01, "Cards", and document 02, Q-3: the net card, line by line.
-use Rattle.std.specs.Prelude.{ℕ, ◌+◌, ◌*◌, ◌/◌, ◌%◌, true, cond, List, map, length, get_or, drop, replicate, ltb}
+use Rattle.std.specs.Prelude.{ℕ, ◌+◌, ◌*◌, ◌/◌, ◌%◌, true, cond, List, map, length, get_or, drop, replicate, ltb, Err, None, Option, Some}
 use Rattle.laws.specs.Arrays.{filled}
 use Rattle.reply.specs.declared.Refusal.TheVariants.{LatestBelowEarliest}
-use Rattle.reply.specs.declared.Checked.{Checked}
-use Rattle.reply.specs.declared.Checked.TheVariants.{Passed, Refused}
-use Rattle.reply.specs.Respond.{Outcome, written_if}
+use Rattle.reply.specs.Respond.{Outcome, written_if, Checked, Passed}
 use Rattle.text.specs.Key.{bytes, begins_with}
 use Rattle.text.specs.Number.{field_at}
 use Rattle.text.specs.Decimal.{field}
 use Rattle.form.specs.Form.{found, and_then, found_if, also, Form, keyed, chain, times, held}
 use Rattle.form.specs.Line.{formed, ranged, number, items}
 use Rattle.form.specs.Sheet.{sheet}
-use Rattle.net.specs.declared.Latest.{Latest}
-use Rattle.net.specs.declared.Latest.TheVariants.{Unbounded, Ticks}
 use Rattle.net.specs.declared.Transition.{Transition}
 use Rattle.net.specs.declared.Net.{Net}
 
 -- `latest`: 0 to 1,000 ticks, or the word `inf` for no upper bound; below `earliest` it is 3
-abbrev pub latest_checked : ℕ → Latest → ℕ → Checked
-latest_checked earliest Unbounded line = Passed
-latest_checked earliest (Ticks n) line = also (ranged 0 1000 n line) (cond (ltb n earliest) (Refused (LatestBelowEarliest line)) Passed)
+abbrev pub latest_checked : ℕ → Option ℕ → ℕ → Checked
+latest_checked earliest None line = Passed
+latest_checked earliest (Some n) line = also (ranged 0 1000 n line) (cond (ltb n earliest) (Err (LatestBelowEarliest line)) Passed)
 
-abbrev pub latest_text : Latest → List ℕ
-latest_text Unbounded = bytes "inf\n"
-latest_text (Ticks n) = field n true
+abbrev pub latest_text : Option ℕ → List ℕ
+latest_text None = bytes "inf\n"
+latest_text (Some n) = field n true
 
-abbrev pub latest : ℕ → Form Latest
+abbrev pub latest : ℕ → Form (Option ℕ)
 latest earliest =
     record {
       text = latest_text;
       lines = λ l. 1;
       check = latest_checked earliest;
       read = λ s at line.
-          cond (begins_with (bytes "inf\n") (drop at s)) (found Unbounded (at + length (bytes "inf\n")))
-          (and_then (formed line (field_at s at true)) (λ n next. found_if (latest_checked earliest (Ticks n) line) (Ticks n) next));
+          cond (begins_with (bytes "inf\n") (drop at s)) (found None (at + length (bytes "inf\n")))
+          (and_then (formed line (field_at s at true)) (λ n next. found_if (latest_checked earliest (Some n) line) (Some n) next));
       clean = λ l. l;
     }
 
@@ -41,7 +37,7 @@ latest earliest =
 abbrev pub weights : ℕ → Form (List ℕ × List ℕ)
 weights places = chain (keyed (bytes "take=") (items places 16 0 255)) (λ _. keyed (bytes "give=") (items places 16 0 255))
 
-abbrev pub row_lines : ℕ → Form (ℕ × (Latest × (List ℕ × List ℕ)))
+abbrev pub row_lines : ℕ → Form (ℕ × (Option ℕ × (List ℕ × List ℕ)))
 row_lines places =
     chain (keyed (bytes "earliest=") (number (ranged 0 1000)))
     (λ earliest. chain (keyed (bytes "latest=") (latest earliest)) (λ _. weights places))
@@ -52,10 +48,10 @@ pub record Row : Type 0 where
   pub take : List ℕ
   pub give : List ℕ
 
-abbrev pub to_row : ℕ × (Latest × (List ℕ × List ℕ)) → Row
+abbrev pub to_row : ℕ × (Option ℕ × (List ℕ × List ℕ)) → Row
 to_row v = record { interval = record { earliest = v.0; latest = v.1.0 }; take = v.1.1.0; give = v.1.1.1 }
 
-abbrev pub from_row : Row → ℕ × (Latest × (List ℕ × List ℕ))
+abbrev pub from_row : Row → ℕ × (Option ℕ × (List ℕ × List ℕ))
 from_row t = (t.interval.earliest, (t.interval.latest, (t.take, t.give)))
 
 abbrev pub row : ℕ → Form Row
@@ -63,7 +59,7 @@ row places = held to_row from_row (row_lines places)
 
 -- what stands for a transition that is none, and for its lines
 abbrev pub no_transition : Transition
-no_transition = record { earliest = 0; latest = Unbounded }
+no_transition = record { earliest = 0; latest = None }
 
 abbrev pub no_row : Row
 no_row = record { interval = no_transition; take = replicate 16 0; give = replicate 16 0 }

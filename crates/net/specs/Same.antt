@@ -1,8 +1,6 @@
 -- Document 01, "The caller": slots past a value's counts are no part of it. Two nets are the same if they agree in all that counts.
-use Rattle.std.specs.Prelude.{ℕ, ◌<◌, ◌≡◌, map, get_or}
+use Rattle.std.specs.Prelude.{ℕ, ◌<◌, ◌≡◌, map, get_or, None, Option, Some}
 use Rattle.form.specs.Line.{writable}
-use Rattle.net.specs.declared.Latest.{Latest}
-use Rattle.net.specs.declared.Latest.TheVariants.{Ticks, Unbounded}
 use Rattle.net.specs.declared.Transition.{Transition}
 use Rattle.net.specs.declared.Net.{Net}
 use Rattle.net.specs.Net.{no_transition, takes_in, gives_in}
@@ -17,9 +15,9 @@ pub record SameNet (a b : Net) : Type 0 where
   pub give : (t p : ℕ) → t < b.transitions → p < b.places → gives_in a.give t p ≡ gives_in b.give t p
 
 -- "2 for a number too long to write": a net as its card would hold it, such a number as the largest that can be written
-abbrev pub writable_latest : Latest → Latest
-writable_latest Unbounded = Unbounded
-writable_latest (Ticks n) = Ticks (writable n)
+abbrev pub writable_latest : Option ℕ → Option ℕ
+writable_latest None = None
+writable_latest (Some n) = Some (writable n)
 
 abbrev pub writable_interval : Transition → Transition
 writable_interval t = record { earliest = writable t.earliest; latest = writable_latest t.latest }

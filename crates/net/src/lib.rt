@@ -1,18 +1,11 @@
 // Nets. No function: the types, the net card as a form, and its laws.
 #![tactic(auto)]
 
-// A transition's upper bound, in ticks.
-#[derive(Clone, Copy)]
-pub enum Latest {
-    Unbounded,
-    Ticks(u32),
-}
-
-// A transition's static interval, in ticks.
+// A transition's static interval, in ticks; with no `latest` it has no upper bound.
 #[derive(Clone, Copy)]
 pub struct Transition {
     pub earliest: u32,
-    pub latest: Latest,
+    pub latest: Option<u32>,
 }
 
 // A net, by the sheet that it is drawn on. What is taken stands by places, 32 transitions a place, so that a firing finds those that a place is short of

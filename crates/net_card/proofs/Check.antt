@@ -1,4 +1,6 @@
 -- The check of a net whose tokens and weights are bytes: all of them pass, so its counts and intervals decide.
+use Rattle.reply.specs.Respond.{Checked, Passed}
+use Rattle.std.specs.Prelude.{Err}
 use Prim.Native.Nat.{ℕ, ◌+◌, ◌*◌, ◌≤◌, ◌<◌, min}
 use native.Mathlib.Nat.{min-eq_left, min-le_right}
 use native.Mathlib.Omega.{arith}
@@ -13,8 +15,6 @@ use Rattle.laws.specs.Arrays.{filled_most}
 use Rattle.laws.specs.Each.{Each, each_of}
 use Rattle.laws.specs.Slots.{first_of, length_first, get_d_first}
 use Rattle.reply.specs.declared.Refusal.{Refusal}
-use Rattle.reply.specs.declared.Checked.{Checked}
-use Rattle.reply.specs.declared.Checked.TheVariants.{Passed, Refused}
 use Rattle.form.specs.Form.{also, checks}
 use Rattle.form.specs.Line.{ranged, all_ranged, items}
 use Rattle.form.proofs.Lines.{ranged_within}
@@ -81,19 +81,19 @@ module _ (n : Net) where
       where
         go : (a b : Checked) → also a (also b Passed) ≡ also a b
         go Passed Passed = refl
-        go Passed (Refused r) = refl
-        go (Refused r) b = refl
+        go Passed (Err r) = refl
+        go (Err r) b = refl
 
 -- ---- a net
 module _ (n : Net) where
-  pub sheet_fails : {r : Refusal} → ranged 0 9999 n.sheet 1 ≡ Refused r → Refused r ≡ net_card.check n 1
+  pub sheet_fails : {r : Refusal} → ranged 0 9999 n.sheet 1 ≡ Err r → Err r ≡ net_card.check n 1
   sheet_fails e = sym (rw e refl)
 
-  pub places_fail : {r : Refusal} → ranged 0 9999 n.sheet 1 ≡ Passed → ranged 1 16 n.places 2 ≡ Refused r → Refused r ≡ net_card.check n 1
+  pub places_fail : {r : Refusal} → ranged 0 9999 n.sheet 1 ≡ Passed → ranged 1 16 n.places 2 ≡ Err r → Err r ≡ net_card.check n 1
   places_fail h e = sym (rw (h, e) refl)
 
-  pub transitions_fail : {r : Refusal} → ranged 0 9999 n.sheet 1 ≡ Passed → ranged 1 16 n.places 2 ≡ Passed → ranged 1 32 n.transitions 3 ≡ Refused r
-      → Refused r ≡ net_card.check n 1
+  pub transitions_fail : {r : Refusal} → ranged 0 9999 n.sheet 1 ≡ Passed → ranged 1 16 n.places 2 ≡ Passed → ranged 1 32 n.transitions 3 ≡ Err r
+      → Err r ≡ net_card.check n 1
   transitions_fail h e l = sym (rw (h, e, l) refl)
 
   -- of its transitions, t are checked
@@ -123,7 +123,7 @@ module _ (n : Net) where
             ap (λ r. (row n.places).check r (4 + n.places + 4 * t)) (row_there n t (omega (arith, (ranged_within 1 32 n.transitions 3 q).1)))
             ∙ row_check n small t (4 + n.places + 4 * t)
 
-        pub interval_fails : {r : Refusal} → interval ≡ Refused r → Refused r ≡ net_card.check n 1
+        pub interval_fails : {r : Refusal} → interval ≡ Err r → Err r ≡ net_card.check n 1
         interval_fails e = sym (by_rows ∙ checking_refused w h (checked_row ∙ e))
 
         pub interval_passes_lem : interval ≡ Passed → RowsChecked (t + 1)

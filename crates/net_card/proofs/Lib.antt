@@ -1,4 +1,3 @@
-pub mod Intervals
 pub mod Stored
 pub mod Tables
 pub mod Read

@@ -1,5 +1,6 @@
 -- A net card, by the cases of the code: its parts read one after the other, of which the first refusal counts. Behind the last one the values of all
 -- lines stand where the net has them.
+use Rattle.std.specs.Prelude.{Err, Ok, Option, Result}
 use Prim.Native.Nat.{ℕ, ◌+◌, ◌-◌, ◌*◌, ◌≤◌, ◌<◌, min}
 use native.Mathlib.Nat.{add-zero, one-mul, min-eq_left}
 use native.Mathlib.Omega.{arith}
@@ -12,34 +13,26 @@ use Rattle.laws.specs.Tables.{map_set}
 use Rattle.laws.specs.Slots.{first_of, pad_to, get_d_padded}
 use Rattle.reply.specs.declared.Refusal.{Refusal}
 use Rattle.text.specs.Key.{bytes}
-use Rattle.form.specs.declared.NumberLine.TheVariants as number-line
-use Rattle.form.specs.declared.LineRead.{LineRead}
-use Rattle.form.specs.declared.LineRead.TheVariants.{Next, Stopped}
 use Rattle.form.specs.Form.{Found, found, refused, and_then, Form, keyed, exactly}
 use Rattle.form.specs.Line.{ranged, number, items}
 use Rattle.form.specs.Sheet.{sheet}
-use Rattle.form.specs.Code.{number_line}
-use Rattle.form.proofs.Answers.{number_found, number_refused, chain_parts, exactly_lines}
-use Rattle.form.proofs.Found.{not_both, found_value, found_place, then_found, then_refused, then_then}
+use Rattle.form.proofs.Answers.{chain_parts, exactly_lines}
+use Rattle.form.proofs.Found.{not_both, found_value, found_place, refused_same, then_found, then_refused, then_then}
 use Rattle.form.proofs.Format.{items_format}
 use Rattle.form.proofs.Lines.{ranged_read}
 use Rattle.form.proofs.Loops.{Reading, reading_start, reading_more, reading_refused, reading_done}
-use Rattle.net.specs.declared.Latest.{Latest}
 use Rattle.net.specs.declared.Transition.{Transition}
 use Rattle.net.specs.declared.Net.{Net}
 use Rattle.net.specs.Net.{latest, weights, Row, to_row, row, no_row, no_transition, starts, rows, body, counted_lines, take_of, give_of, to_net, net_card}
 use Rattle.net_card.specs.declared.Heading.{Heading}
-use Rattle.net_card.specs.declared.NetRead.{NetRead}
-use Rattle.net_card.specs.declared.IntervalRead.TheVariants.{Value, Refused}
-use Rattle.net_card.specs.Code.{interval_lines, interval_read, found_in, spread, stored_in, stored_as, net_read, behind_sheet, behind_counts, started}
-use Rattle.net_card.proofs.Intervals.{interval_found, interval_refused}
+use Rattle.net_card.specs.Code.{interval, interval_lines, to_interval, found_in, spread, stored_in, stored_as, behind_sheet, behind_counts, started}
 use Rattle.net_card.proofs.Tables.{take_empty, give_empty, take_stored, give_stored}
 
 -- ---- what an answer beside lent arrays tells
-in_next : {A : Type 0} {f : Found A} (r : LineRead) (a : A) {next : ℕ} → found_in r a ≡ f → r ≡ Next next → f ≡ found a next
+in_next : {A : Type 0} {f : Found A} (r : Result ℕ Refusal) (a : A) {next : ℕ} → found_in r a ≡ f → r ≡ Ok next → f ≡ found a next
 in_next r a p e = sym p ∙ rw e refl
 
-in_stopped : {A : Type 0} {f : Found A} (r : LineRead) (a : A) {q : Refusal} → found_in r a ≡ f → r ≡ Stopped q → f ≡ refused q
+in_stopped : {A : Type 0} {f : Found A} (r : Result ℕ Refusal) (a : A) {q : Refusal} → found_in r a ≡ f → r ≡ Err q → f ≡ refused q
 in_stopped r a p e = sym p ∙ rw e refl
 
 -- ---- the weights of transition t
@@ -54,14 +47,14 @@ list_clean key places ns s at next line few e =
     rw (min-eq_left few) at (((items_format {P = Unit {0}} key places 16 0 255 (lit< tt)).inverse tt).written_read ns s at next line e).cleaned
 
 -- a value beside one that is known
-pair_in : {A B : Type 0} (r : LineRead) (a : A) (b : B) {f : Found B} → found_in r b ≡ f → found_in {A = A × B} r (a, b) ≡ and_then f (λ y end. found (a, y) end)
+pair_in : {A B : Type 0} (r : Result ℕ Refusal) (a : A) (b : B) {f : Found B} → found_in r b ≡ f → found_in {A = A × B} r (a, b) ≡ and_then f (λ y end. found (a, y) end)
 pair_in {A} {B} r a b e = go r ∙ ap (λ (f : Found B). and_then f (λ y end. found (a, y) end)) e
   where
-    go : (q : LineRead) → found_in {A = A × B} q (a, b) ≡ and_then (found_in q b) (λ y end. found (a, y) end)
-    go (Next n) = refl
-    go (Stopped q) = refl
+    go : (q : Result ℕ Refusal) → found_in {A = A × B} q (a, b) ≡ and_then (found_in q b) (λ y end. found (a, y) end)
+    go (Ok n) = refl
+    go (Err q) = refl
 
-module _ (places t : ℕ) (s : List ℕ) (at line : ℕ) (take give : List ℕ) (r : LineRead) (take' : List ℕ)
+module _ (places t : ℕ) (s : List ℕ) (at line : ℕ) (take give : List ℕ) (r : Result ℕ Refusal) (take' : List ℕ)
     (p : found_in r take' ≡ stored_in (record { count = places; first = t; step = 32 }) take ((list_of (bytes "take=") places).read s at line)) where
   -- the answer for both lists
   abbrev both : Found (List ℕ × List ℕ)
@@ -71,11 +64,11 @@ module _ (places t : ℕ) (s : List ℕ) (at line : ℕ) (take give : List ℕ) 
   abbrev gives : ℕ → Found (List ℕ)
   gives next = (list_of (bytes "give=") places).read s next (line + 1)
 
-  pub take_stopped : {q : Refusal} → r ≡ Stopped q → refused q ≡ both
+  pub take_stopped : {q : Refusal} → r ≡ Err q → refused q ≡ both
   take_stopped e =
       then_refused ((list_of (bytes "take=") places).read s at line) _ (λ z. sym (rw z refl)) (λ v end z z'. absurd (not_both (sym z'))) (in_stopped r take' p e)
 
-  pub take_next : {next : ℕ} → r ≡ Next next → (q : LineRead) (give' : List ℕ)
+  pub take_next : {next : ℕ} → r ≡ Ok next → (q : Result ℕ Refusal) (give' : List ℕ)
       → found_in q give' ≡ stored_in (record { count = places; first = 16 * t; step = 1 }) give (gives next)
       → found_in q (take', give') ≡ both
   take_next {next} e q give' z =
@@ -92,26 +85,26 @@ module _ (places t : ℕ) (s : List ℕ) (at line : ℕ) (take give : List ℕ) 
 
 -- ---- the lines of transition t
 -- the row of lines that were found
-abbrev as_row : Found (ℕ × (Latest × (List ℕ × List ℕ))) → Found Row
+abbrev as_row : Found (ℕ × (Option ℕ × (List ℕ × List ℕ))) → Found Row
 as_row f = and_then f (λ v end. found (to_row v) end)
 
 -- the row of an interval that was found and what h finds behind it
-abbrev with_weights : (ℕ → Found (List ℕ × List ℕ)) → Found (ℕ × Latest) → Found Row
+abbrev with_weights : (ℕ → Found (List ℕ × List ℕ)) → Found (ℕ × Option ℕ) → Found Row
 with_weights h f = and_then f (λ i next. and_then (h next) (λ w end. found (to_row (i.0, (i.1, w))) end))
 
 -- a row is its interval and behind it its weights
-weights_put : (e : ℕ) (l : Latest) (h : Found (List ℕ × List ℕ))
+weights_put : (e : ℕ) (l : Option ℕ) (h : Found (List ℕ × List ℕ))
     → as_row (and_then (and_then h (λ w end. found (l, w) end)) (λ b end. found (e, b) end)) ≡ and_then h (λ w end. found (to_row (e, (l, w))) end)
 weights_put e l (found w end) = refl
 weights_put e l (refused r) = refl
 
-latest_put : (e : ℕ) (g : Found Latest) (h : ℕ → Found (List ℕ × List ℕ))
+latest_put : (e : ℕ) (g : Found (Option ℕ)) (h : ℕ → Found (List ℕ × List ℕ))
     → as_row (and_then (and_then g (λ l next. and_then (h next) (λ w end. found (l, w) end))) (λ b end. found (e, b) end))
     ≡ with_weights h (and_then g (λ l next. found (e, l) next))
 latest_put e (found l next) h = weights_put e l (h next)
 latest_put e (refused r) h = refl
 
-earliest_put : (f : Found ℕ) (g : ℕ → ℕ → Found Latest) (h : ℕ → Found (List ℕ × List ℕ))
+earliest_put : (f : Found ℕ) (g : ℕ → ℕ → Found (Option ℕ)) (h : ℕ → Found (List ℕ × List ℕ))
     → as_row (and_then f (λ e to. and_then (and_then (g e to) (λ l next. and_then (h next) (λ w end. found (l, w) end))) (λ b end. found (e, b) end)))
     ≡ with_weights h (and_then f (λ e to. and_then (g e to) (λ l next. found (e, l) next)))
 earliest_put (found e to) g h = latest_put e (g e to) h
@@ -124,6 +117,16 @@ row_read places s at line =
     rw two
     (earliest_put ((keyed (bytes "earliest=") (number (ranged 0 1000))).read s at line) (λ e to. (keyed (bytes "latest=") (latest e)).read s to (line + 1))
     (λ next. (weights places).read s next (line + 2)))
+
+-- what the lines of an interval say
+interval_found : (f : Found (ℕ × Option ℕ)) {t : Transition} {next : ℕ} → and_then f (λ v end. found (to_interval v) end) ≡ found t next
+    → f ≡ found (t.earliest, t.latest) next
+interval_found (found v to) e = rw (← found_value e, ← found_place e) refl
+interval_found (refused r) e = absurd (not_both e)
+
+interval_refused : (f : Found (ℕ × Option ℕ)) {r : Refusal} → and_then f (λ v end. found (to_interval v) end) ≡ refused r → f ≡ refused r
+interval_refused (found v to) e = absurd (not_both (sym e))
+interval_refused (refused q) e = ap refused (refused_same e)
 
 -- a slot that is not filled yet
 row_free : (held : List Row) (t : ℕ) → drop t held ≡ replicate (32 - t) no_row → get_or held t no_row ≡ no_row
@@ -166,7 +169,7 @@ module _ (head : Heading) (start : List ℕ) {s : List ℕ} {at : ℕ} {take giv
   n = head.transitions
 
   -- the answer for the whole net
-  abbrev net : NetRead
+  abbrev net : Found Net
   net = started head start ((rows places n).read s at (4 + places))
 
   -- the line of the next transition
@@ -174,20 +177,20 @@ module _ (head : Heading) (start : List ℕ) {s : List ℕ} {at : ℕ} {take giv
   line = 4 + places + 4 * t
 
   module _ (h : t < n) where
-    refused_row : {r : Refusal} → (row places).read s to line ≡ refused r → net_read (refused r) ≡ net
+    refused_row : {r : Refusal} → (row places).read s to line ≡ refused r → refused r ≡ net
     refused_row e = ap (started head start) (sym (rows_exactly places n s at (4 + places) w.reading.room ∙ reading_refused w.reading h e))
 
-    pub interval_stopped : {r : Refusal} → interval_read (interval_lines.read s to line) ≡ Refused r → net_read (refused r) ≡ net
+    pub interval_stopped : {r : Refusal} → interval.read s to line ≡ refused r → refused r ≡ net
     interval_stopped e = refused_row (row_read places s to line ∙ rw (interval_refused (interval_lines.read s to line) e) refl)
 
-    module _ {interval : Transition} {next : ℕ} (e : interval_read (interval_lines.read s to line) ≡ Value interval next) (r : LineRead) (take' give' : List ℕ)
+    module _ {i : Transition} {next : ℕ} (e : interval.read s to line ≡ found i next) (r : Result ℕ Refusal) (take' give' : List ℕ)
         (p : found_in r (take', give') ≡ stored_as places t take give ((weights places).read s next (line + 2))) where
       -- the row, from its weights
       row_left : (row places).read s to line
-          ≡ and_then ((weights places).read s next (line + 2)) (λ v end. found (to_row (interval.earliest, (interval.latest, v))) end)
+          ≡ and_then ((weights places).read s next (line + 2)) (λ v end. found (to_row (i.earliest, (i.latest, v))) end)
       row_left = row_read places s to line ∙ rw (interval_found (interval_lines.read s to line) e) refl
 
-      pub weights_stopped : {q : Refusal} → r ≡ Stopped q → net_read (refused q) ≡ net
+      pub weights_stopped : {q : Refusal} → r ≡ Err q → refused q ≡ net
       weights_stopped {q} e' =
           then_refused ((weights places).read s next (line + 2)) _ (λ z. refused_row (row_left ∙ rw z refl)) (λ v end z z'. absurd (not_both (sym z')))
           (in_stopped r (take', give') p e')
@@ -195,9 +198,9 @@ module _ (head : Heading) (start : List ℕ) {s : List ℕ} {at : ℕ} {take giv
       -- the weights that were found stand in the arrays
       rows_with : places ≤ 16 → (v : List ℕ × List ℕ) {after : ℕ} → (weights places).read s next (line + 2) ≡ found v after
           → take' ≡ spread (first_of places 0 v.0) t 32 take → give' ≡ spread (first_of places 0 v.1) (16 * t) 1 give
-          → RowsRead places n s at take' give' (set table t interval) (t + 1) after
+          → RowsRead places n s at take' give' (set table t i) (t + 1) after
       rows_with few v {after} first taken given =
-          let r = to_row (interval.earliest, (interval.latest, v)) in
+          let r = to_row (i.earliest, (i.latest, v)) in
           let read : (row places).read s to line ≡ found r after = row_left ∙ rw first refl in
           let parts = chain_parts (list_of (bytes "take=") places) (λ _. list_of (bytes "give=") places) s next (line + 2) first in
           let long = w.reading.whole in
@@ -213,10 +216,10 @@ module _ (head : Heading) (start : List ℕ) {s : List ℕ} {at : ℕ} {take giv
             given = given ∙ ap (spread (first_of places 0 v.1) (16 * t) 1) w.given
                 ∙ give_stored w.held r t places long small few free
                 (list_clean (bytes "give=") places v.1 s parts.place after (line + 2 + 1) few parts.second);
-            intervals = ap (λ (x : List Transition). set x t interval) w.intervals ∙ sym (map_set (λ (x : Row). x.interval) w.held t r);
+            intervals = ap (λ (x : List Transition). set x t i) w.intervals ∙ sym (map_set (λ (x : Row). x.interval) w.held t r);
           }
 
-      pub rows_more : places ≤ 16 → {after : ℕ} → r ≡ Next after → RowsRead places n s at take' give' (set table t interval) (t + 1) after
+      pub rows_more : places ≤ 16 → {after : ℕ} → r ≡ Ok after → RowsRead places n s at take' give' (set table t i) (t + 1) after
       rows_more few e' =
           let u = then_found ((weights places).read s next (line + 2)) _ (in_next r (take', give') p e') in
           let arrays = found_value u.then in
@@ -224,12 +227,8 @@ module _ (head : Heading) (start : List ℕ) {s : List ℕ} {at : ℕ} {take giv
           (sym (ap (λ (x : List ℕ × List ℕ). x.0) arrays)) (sym (ap (λ (x : List ℕ × List ℕ). x.1) arrays))
 
   pub rows_done : n ≤ t
-      → record {
-        read = Next to;
-        net = record { sheet = head.sheet; places = places; transitions = n; start = start; take = take; give = give; table = table };
-      } ≡ net
-  rows_done h =
-      rw (rows_exactly places n s at (4 + places) w.reading.room ∙ reading_done w.reading h, w.taken, w.given, w.intervals) refl
+      → found (record { sheet = head.sheet; places = places; transitions = n; start = start; take = take; give = give; table = table }) to ≡ net
+  rows_done h = rw (rows_exactly places n s at (4 + places) w.reading.room ∙ reading_done w.reading h, w.taken, w.given, w.intervals) refl
 
 -- ---- the lines `start`
 -- one of them
@@ -249,33 +248,33 @@ starts_exactly places s at few = rw (min-eq_left few) refl
 
 module _ {places : ℕ} {s : List ℕ} {at : ℕ} {l : List ℕ} {i to : ℕ} (w : Reading start_line places 16 0 s at 4 l i to (4 + i)) where
   module _ (h : i < places) where
-    pub start_stopped : {r : Refusal} → number_line (start_line.read s to (4 + i)) ≡ number-line.Refused r → refused r ≡ (starts places).read s at 4
-    start_stopped e = sym (starts_exactly places s at w.room ∙ reading_refused w h (number_refused (start_line.read s to (4 + i)) e))
+    pub start_stopped : {r : Refusal} → start_line.read s to (4 + i) ≡ refused r → refused r ≡ (starts places).read s at 4
+    start_stopped e = sym (starts_exactly places s at w.room ∙ reading_refused w h e)
 
-    module _ {v next : ℕ} (e : number_line (start_line.read s to (4 + i)) ≡ number-line.Value v next) where
+    module _ {v next : ℕ} (e : start_line.read s to (4 + i) ≡ found v next) where
       pub start_small : v ≤ 255
-      start_small = (ranged_read (bytes "start=") 0 255 (lit< tt) v s to next (4 + i) (number_found (start_line.read s to (4 + i)) e)).1
+      start_small = (ranged_read (bytes "start=") 0 255 (lit< tt) v s to next (4 + i) e).1
 
       pub start_more : Reading start_line places 16 0 s at 4 (set l i v) (i + 1) next (4 + (i + 1))
       start_more =
           let q : 4 + i + 1 ≡ 4 + (i + 1) = omega arith in
-          rw q at (reading_more w h (number_found (start_line.read s to (4 + i)) e))
+          rw q at (reading_more w h e)
 
   pub start_done : places ≤ i → found l to ≡ (starts places).read s at 4
   start_done h = sym (starts_exactly places s at w.room ∙ reading_done w h)
 
 -- ---- the lines behind the counts
-module _ (head : Heading) (s : List ℕ) (at : ℕ) (r : LineRead) (start : List ℕ) (p : found_in r start ≡ (starts head.places).read s at 4) where
-  pub starts_stopped : {q : Refusal} → r ≡ Stopped q → net_read (refused q) ≡ behind_counts head ((body head.places head.transitions).read s at 4)
-  starts_stopped e = rw (in_stopped r start p e)
+module _ (head : Heading) (s : List ℕ) (at : ℕ) where
+  pub starts_stopped : {q : Refusal} → (starts head.places).read s at 4 ≡ refused q → refused q ≡ behind_counts head ((body head.places head.transitions).read s at 4)
+  starts_stopped e = rw e refl
 
-  pub starts_found : head.places ≤ 16 → {next : ℕ} → r ≡ Next next
+  pub starts_found : head.places ≤ 16 → {start : List ℕ} {next : ℕ} → (starts head.places).read s at 4 ≡ found start next
       → started head start ((rows head.places head.transitions).read s next (4 + head.places))
       ≡ behind_counts head ((body head.places head.transitions).read s at 4)
-  starts_found few {next} e =
+  starts_found few {start} {next} e =
       let f = (rows head.places head.transitions).read s next (4 + head.places) in
       let whole : List ℕ × List Row → ℕ → Found Net = λ b end. found (to_net (head.sheet, (head.places, (head.transitions, b)))) end in
-      rw (in_next r start p e, starts_lines head.places start few) (ap net_read (sym (then_then f (λ b end. found (start, b) end) whole)))
+      rw (e, starts_lines head.places start few) (sym (then_then f (λ b end. found (start, b) end) whole))
 
 -- ---- the lines behind the sheet
 -- the values of the lines put together, at once or one after the other
@@ -286,40 +285,40 @@ counted_together h p t (refused r) = refl
 
 module _ (sheet : ℕ) (s : List ℕ) (at : ℕ) where
   -- the answer for the whole net
-  abbrev counted : NetRead
+  abbrev counted : Found Net
   counted = behind_sheet sheet (counted_lines.read s at 2)
 
   -- the first count
   abbrev places_line : Found ℕ
   places_line = (keyed (bytes "places=") (number (ranged 1 16))).read s at 2
 
-  pub places_stopped : {r : Refusal} → number_line places_line ≡ number-line.Refused r → net_read (refused r) ≡ counted
-  places_stopped e = rw (number_refused places_line e)
+  pub places_stopped : {r : Refusal} → places_line ≡ refused r → refused r ≡ counted
+  places_stopped e = rw e
 
-  module _ {p next : ℕ} (e : number_line places_line ≡ number-line.Value p next) where
+  module _ {p next : ℕ} (e : places_line ≡ found p next) where
     -- the second one
     abbrev transitions_line : Found ℕ
     transitions_line = (keyed (bytes "transitions=") (number (ranged 1 32))).read s next 3
 
-    pub transitions_stopped : {r : Refusal} → number_line transitions_line ≡ number-line.Refused r → net_read (refused r) ≡ counted
-    transitions_stopped e' = rw (number_found places_line e, number_refused transitions_line e')
+    pub transitions_stopped : {r : Refusal} → transitions_line ≡ refused r → refused r ≡ counted
+    transitions_stopped e' = rw (e, e')
 
-    module _ {t to : ℕ} (e' : number_line transitions_line ≡ number-line.Value t to) where
+    module _ {t to : ℕ} (e' : transitions_line ≡ found t to) where
       pub counts_read : behind_counts (record { sheet = sheet; places = p; transitions = t }) ((body p t).read s to 4) ≡ counted
-      counts_read = rw (number_found places_line e, number_found transitions_line e') (counted_together sheet p t ((body p t).read s to 4))
+      counts_read = rw (e, e') (counted_together sheet p t ((body p t).read s to 4))
 
       pub counts_small : (1 ≤ p) × (p ≤ 16) × (t ≤ 32)
       counts_small =
-          let h = ranged_read (bytes "places=") 1 16 (lit< tt) p s at next 2 (number_found places_line e) in
-          (h.0, h.1, (ranged_read (bytes "transitions=") 1 32 (lit< tt) t s next to 3 (number_found transitions_line e')).1)
+          let h = ranged_read (bytes "places=") 1 16 (lit< tt) p s at next 2 e in
+          (h.0, h.1, (ranged_read (bytes "transitions=") 1 32 (lit< tt) t s next to 3 e').1)
 
 -- ---- a net
 module _ (s : List ℕ) where
-  pub sheet_stopped : {r : Refusal} → number_line (sheet.read s 0 1) ≡ number-line.Refused r → net_read (refused r) ≡ net_read (net_card.read s 0 1)
-  sheet_stopped e = rw (number_refused (sheet.read s 0 1) e)
+  pub sheet_stopped : {r : Refusal} → (sheet.read s 0 1) ≡ refused r → refused r ≡ net_card.read s 0 1
+  sheet_stopped e = rw e
 
-  pub net_read_lem : {h next : ℕ} → number_line (sheet.read s 0 1) ≡ number-line.Value h next
-      → behind_sheet h (counted_lines.read s next 2) ≡ net_read (net_card.read s 0 1)
+  pub net_read_lem : {h next : ℕ} → (sheet.read s 0 1) ≡ found h next
+      → behind_sheet h (counted_lines.read s next 2) ≡ net_card.read s 0 1
   net_read_lem {h} {next} e =
       let together = then_then (counted_lines.read s next 2) (λ v end. found (h, v) end) (λ v end. found (to_net v) end) in
-      rw (number_found (sheet.read s 0 1) e) (ap net_read (sym together))
+      rw e (sym together)

@@ -6,24 +6,15 @@ ghost use Rattle.laws.specs.Arrays.{filled};
 ghost use Rattle.laws.specs.Writing.{Puts};
 ghost use Rattle.reply.specs.Respond.{Responded};
 ghost use Rattle.text.specs.Key.{bytes};
-ghost use Rattle.form.specs.Form.{keyed, refused};
+ghost use Rattle.text.specs.Writer.{Writes};
+ghost use Rattle.form.specs.Form.{keyed};
 ghost use Rattle.form.specs.Line.{items};
 ghost use Rattle.net.specs.Net.{latest, latest_checked, latest_text, weights, starts, rows, rows_of, body, counted_lines, net_card, net_text};
-ghost use Rattle.net_card.specs.Code.{interval_lines, interval_read, bounds_read};
-ghost use Rattle.net_card.specs.Code.{found_in, stored_in, stored_as};
-ghost use Rattle.net_card.specs.Code.{net_read, behind_sheet, behind_counts, started, remainder_start};
+ghost use Rattle.net_card.specs.Code.{interval, found_in, stored_in, stored_as, behind_sheet, behind_counts, started};
 
-use form::{LineRead, NumberLine};
-use net::{Latest, Net, Transition};
-use reply::{Checked, Refusal, Reply};
-use text::NumberRead;
-
-// A transition's interval and the position behind its two lines, or why there is none.
-#[derive(Clone, Copy)]
-enum IntervalRead {
-    Value { interval: Transition, next: usize },
-    Refused(Refusal),
-}
+use net::{Net, Transition};
+use reply::Refusal;
+use text::Writer;
 
 // The slots of an array for a list of so many numbers: the first, and each next one a step further.
 #[derive(Clone, Copy)]
@@ -41,91 +32,64 @@ struct Heading {
     transitions: usize,
 }
 
-// A net that was read and where the unread remainder starts, or why the card is refused.
-#[derive(Clone, Copy)]
-pub struct NetRead {
-    pub read: LineRead,
-    pub net: Net,
-}
-
 // What stands for a transition that was not read.
 const NO_TRANSITION: Transition = Transition {
     earliest: 0,
-    latest: Latest::Unbounded,
+    latest: None,
 };
 
-// The intervals of a net that was not read.
-const NO_TABLE: [Transition; 32] = [NO_TRANSITION; 32];
-
 // The upper bound against its range and the lower bound.
-fn check_latest(latest: Latest, earliest: u32, line: usize) -> Checked
+fn check_latest(latest: Option<u32>, earliest: u32, line: usize) -> Result<(), Refusal>
     ensures { result ≡ latest_checked earliest latest line }
 {
-    match latest {
-        Latest::Unbounded => Checked::Passed,
-        Latest::Ticks(n) => {
-            if 1000 < n {
-                return Checked::Refused(Refusal::OutOfRange(line));
-            }
-            if n < earliest {
-                return Checked::Refused(Refusal::LatestBelowEarliest(line));
-            }
-            Checked::Passed
-        }
+    let Some(n) = latest else { return Ok(()) };
+    form::check_range(n as u64, 0, 1000, line)?;
+    if n < earliest {
+        return Err(Refusal::LatestBelowEarliest(line));
     }
+    Ok(())
 }
 
 // The upper bound that stands at a position, and the line's end.
-fn latest_at(s: &[u8], at: usize, earliest: u32, line: usize) -> IntervalRead
-    ensures { result ≡ bounds_read earliest ((latest earliest).read s.now at line) }
+fn latest_at(
+    s: &[u8],
+    at: usize,
+    earliest: u32,
+    line: usize,
+) -> Result<(Option<u32>, usize), Refusal>
+    ensures { result ≡ (latest earliest).read s.now at line }
 {
     if text::begins_at(s, at, b"inf\n") {
-        return IntervalRead::Value {
-            interval: Transition {
-                earliest,
-                latest: Latest::Unbounded,
-            },
-            next: at + 4,
-        };
+        return Ok((None, at + 4));
     }
-    let n = text::field_at(s, at, true);
-    match n {
-        NumberRead::NoNumber => IntervalRead::Refused(Refusal::Malformed(line)),
-        NumberRead::Value { value, next } => {
-            let latest = Latest::Ticks(value);
-            let c = check_latest(latest, earliest, line);
-            match c {
-                Checked::Refused(r) => IntervalRead::Refused(r),
-                Checked::Passed => IntervalRead::Value {
-                    interval: Transition { earliest, latest },
-                    next,
-                },
-            }
-        }
-    }
+    let (n, next) = text::field_at(s, at, true).ok_or(Refusal::Malformed(line))?;
+    check_latest(Some(n), earliest, line)?;
+    Ok((Some(n), next))
 }
 
 // The line `latest`.
-fn latest_line(s: &[u8], at: usize, earliest: u32, line: usize) -> IntervalRead
-    ensures { result ≡ bounds_read earliest ((keyed (bytes "latest=") (latest earliest)).read s.now at line) }
+fn latest_line(
+    s: &[u8],
+    at: usize,
+    earliest: u32,
+    line: usize,
+) -> Result<(Option<u32>, usize), Refusal>
+    ensures { result ≡ (keyed (bytes "latest=") (latest earliest)).read s.now at line }
 {
-    if text::begins_at(s, at, b"latest=") {
-        latest_at(s, at + 7, earliest, line)
-    } else {
-        IntervalRead::Refused(Refusal::Malformed(line))
+    if !text::begins_at(s, at, b"latest=") {
+        return Err(Refusal::Malformed(line));
     }
+    latest_at(s, at + 7, earliest, line)
 }
 
 // The lines `earliest` and `latest` of a transition.
-fn interval_lines(s: &[u8], at: usize, line: usize) -> IntervalRead
+fn interval_lines(s: &[u8], at: usize, line: usize) -> Result<(Transition, usize), Refusal>
     requires { line ≤ 1000 }
-    ensures { result ≡ interval_read (interval_lines.read s.now at line) }
+    ensures { result ≡ interval.read s.now at line }
 {
-    let e = form::number_line(s, at, b"earliest=", 0, 1000, line);
-    match e {
-        NumberLine::Refused(r) => IntervalRead::Refused(r),
-        NumberLine::Value { value, next } => latest_line(s, next, value, line + 1),
-    }
+    let (earliest, behind) = form::number_line(s, at, b"earliest=", 0, 1000, line)?;
+    let (latest, next) = latest_line(s, behind, earliest, line + 1)?;
+    Ok((Transition { earliest, latest }, next))
 }
 
 // Stores a number in a slot of an array if it fits a byte, and says whether it does.
@@ -141,35 +105,30 @@ fn store(table: &mut [u8; 512], slot: usize, value: u32) -> bool
 }
 
 // Reads numbers joined by commas and the line's end, and stores them; the form of the whole line comes before the ranges.
-fn store_items(s: &[u8], at: usize, line: usize, table: &mut [u8; 512], to: Slots) -> LineRead
-    requires { (1 ≤ to.count) × (to.count ≤ 16) × (to.first + to.step * 15 < 512) }
+fn store_items(
+    s: &[u8],
+    at: usize,
+    line: usize,
+    table: &mut [u8; 512],
+    to: Slots,
+) -> Result<usize, Refusal>
+    requires { (to.count ≤ 16) × (to.first + to.step * 15 < 512) }
     ensures { found_in result table.new ≡ stored_in to table.old ((items to.count 16 0 255).read s.now at line) }
 {
-    let count = to.count;
-    let first = to.first;
-    let step = to.step;
-    let mut slot = first;
     let mut narrow = true;
     let mut next = at;
-    let mut i: usize = 0;
-    while i + 1 < count {
-        let n = text::item_at(s, next, false);
-        let NumberRead::Value { value, next: after } = n else {
-            return LineRead::Stopped(Refusal::Malformed(line));
-        };
-        narrow = narrow & store(&mut *table, slot, value);
-        slot += step;
-        next = after;
-        i += 1;
+    for i in 0..to.count {
+        let (value, behind) = text::field_at(s, next, i + 1 == to.count).ok_or(Refusal::Malformed(
+            line,
+        ))?;
+        narrow &= store(table, to.first + to.step * i, value);
+        next = behind;
     }
-    let n = text::item_at(s, next, true);
-    let NumberRead::Value { value, next: after } = n else {
-        return LineRead::Stopped(Refusal::Malformed(line));
-    };
-    if narrow & store(table, slot, value) {
-        return LineRead::Next(after);
+    if narrow {
+        Ok(next)
+    } else {
+        Err(Refusal::OutOfRange(line))
     }
-    LineRead::Stopped(Refusal::OutOfRange(line))
 }
 
 // A line with a key and a list of weights, which are stored.
@@ -180,16 +139,15 @@ fn weights_line(
     line: usize,
     table: &mut [u8; 512],
     to: Slots,
-) -> LineRead
-    requires { (1 ≤ to.count) × (to.count ≤ 16) × (to.first + to.step * 15 < 512) }
+) -> Result<usize, Refusal>
+    requires { (to.count ≤ 16) × (to.first + to.step * 15 < 512) }
     ensures { found_in result table.new ≡
         stored_in to table.old ((keyed key.now (items to.count 16 0 255)).read s.now at line) }
 {
-    if text::begins_at(s, at, key) {
-        store_items(s, at + key.len(), line, table, to)
-    } else {
-        LineRead::Stopped(Refusal::Malformed(line))
+    if !text::begins_at(s, at, key) {
+        return Err(Refusal::Malformed(line));
     }
+    store_items(s, at + key.len(), line, table, to)
 }
 
 // The lines `take` and `give` of transition t, which are stored in the arrays of a net.
@@ -201,8 +159,8 @@ fn weight_lines(
     t: usize,
     take: &mut [u8; 512],
     give: &mut [u8; 512],
-) -> LineRead
-    requires { (1 ≤ places) × (places ≤ 16) × (t < 32) × (line ≤ 1002) }
+) -> Result<usize, Refusal>
+    requires { (places ≤ 16) × (t < 32) × (line ≤ 1002) }
     ensures { found_in result (take.new, give.new) ≡
         stored_as places t take.old give.old ((weights places).read s.now at line) }
 {
@@ -211,244 +169,144 @@ fn weight_lines(
         first: t,
         step: 32,
     };
-    let read = weights_line(s, at, b"take=", line, take, column);
-    match read {
-        LineRead::Stopped(r) => LineRead::Stopped(r),
-        LineRead::Next(next) => {
-            let row = Slots {
-                count: places,
-                first: 16 * t,
-                step: 1,
-            };
-            weights_line(s, next, b"give=", line + 1, give, row)
-        }
-    }
+    let row = Slots {
+        count: places,
+        first: 16 * t,
+        step: 1,
+    };
+    let next = weights_line(s, at, b"take=", line, take, column)?;
+    weights_line(s, next, b"give=", line + 1, give, row)
 }
 
-// The lines `start`, whose tokens are stored.
-fn start_lines(s: &[u8], at: usize, places: usize, start: &mut [u8; 16]) -> LineRead
-    requires { (places ≤ 16) × (start.old ≡ replicate 16 0) }
-    ensures { found_in result start.new ≡ (starts places).read s.now at 4 }
+// The lines `start`.
+fn start_lines(s: &[u8], at: usize, places: usize) -> Result<([u8; 16], usize), Refusal>
+    requires { places ≤ 16 }
+    ensures { result ≡ (starts places).read s.now at 4 }
 {
-    let mut to = at;
-    let mut i: usize = 0;
-    while i < places {
-        let n = form::number_line(s, to, b"start=", 0, 255, 4 + i);
-        match n {
-            NumberLine::Refused(r) => return LineRead::Stopped(r),
-            NumberLine::Value { value, next } => {
-                start[i] = value as u8;
-                to = next;
-                i += 1;
-            }
-        }
+    let mut start = [0u8; 16];
+    let mut next = at;
+    for i in 0..places {
+        let (tokens, behind) = form::number_line(s, next, b"start=", 0, 255, 4 + i)?;
+        start[i] = tokens as u8;
+        next = behind;
     }
-    LineRead::Next(to)
-}
-
-// What stands for a net whose card is refused.
-fn refused_net(r: Refusal) -> NetRead
-    ensures { result ≡ net_read (refused r) }
-{
-    NetRead {
-        read: LineRead::Stopped(r),
-        net: Net {
-            sheet: 0,
-            places: 0,
-            transitions: 0,
-            start: [0u8; 16],
-            take: [0u8; 512],
-            give: [0u8; 512],
-            table: NO_TABLE,
-        },
-    }
+    Ok((start, next))
 }
 
 // The lines of all transitions, behind the tokens of the start.
-fn table_lines(s: &[u8], at: usize, head: Heading, start: [u8; 16]) -> NetRead
-    requires { (1 ≤ head.places) × (head.places ≤ 16) × (head.transitions ≤ 32) }
+fn table_lines(s: &[u8], at: usize, head: Heading, start: [u8; 16]) -> Result<(Net, usize), Refusal>
+    requires { (head.places ≤ 16) × (head.transitions ≤ 32) }
     ensures { result ≡ started head start ((rows head.places head.transitions).read s.now at (4 + head.places)) }
 {
     let mut take = [0u8; 512];
     let mut give = [0u8; 512];
-    let mut table = NO_TABLE;
-    let mut to = at;
-    let mut t: usize = 0;
-    while t < head.transitions {
+    let mut table = [NO_TRANSITION; 32];
+    let mut next = at;
+    for t in 0..head.transitions {
         let line = 4 + head.places + 4 * t;
-        let i = interval_lines(s, to, line);
-        match i {
-            IntervalRead::Refused(r) => return refused_net(r),
-            IntervalRead::Value { interval, next } => {
-                let w = weight_lines(s, next, line + 2, head.places, t, &mut take, &mut give);
-                match w {
-                    LineRead::Stopped(r) => return refused_net(r),
-                    LineRead::Next(after) => {
-                        table[t] = interval;
-                        to = after;
-                        t += 1;
-                    }
-                }
-            }
-        }
+        let (interval, behind) = interval_lines(s, next, line)?;
+        next = weight_lines(s, behind, line + 2, head.places, t, &mut take, &mut give)?;
+        table[t] = interval;
     }
-    NetRead {
-        read: LineRead::Next(to),
-        net: Net {
-            sheet: head.sheet,
-            places: head.places,
-            transitions: head.transitions,
-            start,
-            take,
-            give,
-            table,
-        },
-    }
+    let net = Net {
+        sheet: head.sheet,
+        places: head.places,
+        transitions: head.transitions,
+        start,
+        take,
+        give,
+        table,
+    };
+    Ok((net, next))
 }
 
 // The lines behind the two counts.
-fn net_lines(s: &[u8], at: usize, head: Heading) -> NetRead
-    requires { (1 ≤ head.places) × (head.places ≤ 16) × (head.transitions ≤ 32) }
+fn net_lines(s: &[u8], at: usize, head: Heading) -> Result<(Net, usize), Refusal>
+    requires { (head.places ≤ 16) × (head.transitions ≤ 32) }
     ensures { result ≡ behind_counts head ((body head.places head.transitions).read s.now at 4) }
 {
-    let mut start = [0u8; 16];
-    let read = start_lines(s, at, head.places, &mut start);
-    match read {
-        LineRead::Stopped(r) => refused_net(r),
-        LineRead::Next(next) => table_lines(s, next, head, start),
-    }
+    let (start, next) = start_lines(s, at, head.places)?;
+    table_lines(s, next, head, start)
 }
 
 // The two counts and the lines that they ask for, behind the sheet.
-fn counted_lines(s: &[u8], at: usize, sheet: u32) -> NetRead
+fn counted_lines(s: &[u8], at: usize, sheet: u32) -> Result<(Net, usize), Refusal>
     ensures { result ≡ behind_sheet sheet (counted_lines.read s.now at 2) }
 {
-    let p = form::number_line(s, at, b"places=", 1, 16, 2);
-    match p {
-        NumberLine::Refused(r) => refused_net(r),
-        NumberLine::Value {
-            value: places,
-            next: at_transitions,
-        } => {
-            let t = form::number_line(s, at_transitions, b"transitions=", 1, 32, 3);
-            match t {
-                NumberLine::Refused(r) => refused_net(r),
-                NumberLine::Value {
-                    value: transitions,
-                    next: at_start,
-                } => {
-                    let head = Heading {
-                        sheet,
-                        places: places as usize,
-                        transitions: transitions as usize,
-                    };
-                    net_lines(s, at_start, head)
-                }
-            }
-        }
-    }
+    let (places, at_transitions) = form::number_line(s, at, b"places=", 1, 16, 2)?;
+    let (transitions, at_start) = form::number_line(s, at_transitions, b"transitions=", 1, 32, 3)?;
+    let head = Heading {
+        sheet,
+        places: places as usize,
+        transitions: transitions as usize,
+    };
+    net_lines(s, at_start, head)
 }
 
-// Reads the net card at the front of an input.
-pub fn read_net(s: &[u8]) -> NetRead
-    ensures { result ≡ net_read (net_card.read s.now 0 1) }
+// Reads the net card at the front of an input: the net, and the position behind the card.
+pub fn read_net(s: &[u8]) -> Result<(Net, usize), Refusal>
+    ensures { result ≡ net_card.read s.now 0 1 }
 {
-    let n = form::number_line(s, 0, b"sheet=", 0, 9999, 1);
-    match n {
-        NumberLine::Refused(r) => refused_net(r),
-        NumberLine::Value { value: sheet, next } => counted_lines(s, next, sheet),
-    }
+    let (sheet, next) = form::number_line(s, 0, b"sheet=", 0, 9999, 1)?;
+    counted_lines(s, next, sheet)
 }
 
-// The unread remainder of an input behind what was read, as that part of the input; all of it where the card is refused.
-pub fn remainder(s: &[u8], read: LineRead) -> &[u8]
-    ensures { (result.now ≡ drop (remainder_start read) s.now) × (result.ref_ptr.0 ≡ s.entry.ref_ptr.0)
-        × (result.ref_ptr.1 ≡ s.entry.ref_ptr.1 + min (remainder_start read) (length s.now)) }
+// The unread remainder of an input behind what was read, as that part of the input.
+pub fn remainder(s: &[u8], next: usize) -> &[u8]
+    ensures { (result.now ≡ drop next s.now) × (result.ref_ptr.0 ≡ s.entry.ref_ptr.0)
+        × (result.ref_ptr.1 ≡ s.entry.ref_ptr.1 + min next (length s.now)) }
 {
-    match read {
-        LineRead::Stopped(_) => &s[0..],
-        LineRead::Next(next) => {
-            let end = s.len();
-            if next <= end {
-                return &s[next..];
-            }
-            &s[end..]
-        }
-    }
+    &s[next.min(s.len())..]
 }
 
 // A transition's interval, as its two lines would be checked.
-fn check_interval(t: Transition, line: usize) -> Checked
+fn check_interval(t: Transition, line: usize) -> Result<(), Refusal>
     requires { line ≤ 1000 }
-    ensures { result ≡ interval_lines.check (t.earliest, t.latest) line }
+    ensures { result ≡ interval.check t line }
 {
-    let earliest = t.earliest;
-    let e = form::check_range(earliest as u64, 0, 1000, line);
-    let Checked::Passed = e else {
-        return e;
-    };
-    let latest = t.latest;
-    check_latest(latest, earliest, line + 1)
+    form::check_range(t.earliest as u64, 0, 1000, line)?;
+    check_latest(t.latest, t.earliest, line + 1)
 }
 
 // Checks a net handed over as a value, as its card would be. Its tokens and weights are bytes, none of which is out of range.
-pub fn check_net(net: Net) -> Checked
+pub fn check_net(net: Net) -> Result<(), Refusal>
     ensures { result ≡ net_card.check net 1 }
 {
-    let places = net.places;
-    let transitions = net.transitions;
-    let h = form::check_range(net.sheet as u64, 0, 9999, 1);
-    let Checked::Passed = h else {
-        return h;
-    };
-    let p = form::check_range(places as u64, 1, 16, 2);
-    let Checked::Passed = p else {
-        return p;
-    };
-    let n = form::check_range(transitions as u64, 1, 32, 3);
-    let Checked::Passed = n else {
-        return n;
-    };
-    let line = 4 + places;
-    let mut t: usize = 0;
-    while t < transitions {
-        let c = check_interval(net.table[t], line + 4 * t);
-        let Checked::Passed = c else {
-            return c;
-        };
-        t += 1;
+    form::check_range(net.sheet as u64, 0, 9999, 1)?;
+    form::check_range(net.places as u64, 1, 16, 2)?;
+    form::check_range(net.transitions as u64, 1, 32, 3)?;
+    for t in 0..net.transitions {
+        check_interval(net.table[t], 4 + net.places + 4 * t)?;
     }
-    Checked::Passed
+    Ok(())
 }
 
-// The writers below ask for no room; the writer of a whole card shows it once, by the longest card.
-
-// The line `latest` written to a position; the position behind it.
-fn put_latest_line(out: &mut [u8], at: usize, latest: Latest) -> usize
-    ensures { Puts out.old at (bytes "latest=" ++ latest_text latest) result out.new }
+// The line `latest`. The writers ask for no room; that of a whole card shows it once, by the longest card.
+fn put_latest_line(w: &mut Writer, latest: Option<u32>)
+    ensures { Writes w.old (bytes "latest=" ++ latest_text latest) w.new }
 {
-    let to = text::put_bytes(&mut *out, at, b"latest=");
+    w.put_bytes(b"latest=");
     match latest {
-        Latest::Unbounded => text::put_bytes(out, to, b"inf\n"),
-        Latest::Ticks(n) => text::put_field(out, to, n as u64, true),
+        None => w.put_bytes(b"inf\n"),
+        Some(n) => w.put_field(n as u64, true),
     }
 }
 
-// The two lines of a transition's interval written to a position; the position behind them.
-fn put_interval(out: &mut [u8], at: usize, t: Transition) -> usize
-    ensures { Puts out.old at (interval_lines.text (t.earliest, t.latest)) result out.new }
+// The two lines of a transition's interval.
+fn put_interval(w: &mut Writer, t: Transition)
+    ensures { Writes w.old (interval.text t) w.new }
 {
-    let to = form::put_number_line(&mut *out, at, b"earliest=", t.earliest as u64);
-    let latest = t.latest;
-    put_latest_line(out, to, latest)
+    form::put_number_line(w, b"earliest=", t.earliest as u64);
+    put_latest_line(w, t.latest);
 }
 
-// The two lines of a transition's weights written to a position; the position behind them.
-fn put_weights(out: &mut [u8], at: usize, take: [u8; 16], give: [u8; 16], places: usize) -> usize
-    ensures { Puts out.old at ((weights places).text (take, give)) result out.new }
+// The two lines of a transition's weights.
+fn put_weights(w: &mut Writer, take: [u8; 16], give: [u8; 16], places: usize)
+    requires { places ≤ 16 }
+    ensures { Writes w.old ((weights places).text (take, give)) w.new }
 {
-    let to = form::put_items_line(&mut *out, at, b"take=", take, places);
-    form::put_items_line(out, to, b"give=", give, places)
+    form::put_items_line(w, b"take=", &take[..places]);
+    form::put_items_line(w, b"give=", &give[..places]);
 }
 
 // Sixteen weights of an array, the first in a slot and each next one a step further.
@@ -457,73 +315,63 @@ fn row_of(table: &[u8; 512], first: usize, step: usize) -> [u8; 16]
     ensures { result ≡ filled (λ p. get_or table.now (first + step * p) 0) 16 (replicate 16 0) }
 {
     let mut row = [0u8; 16];
-    let mut p: usize = 0;
-    while p < 16 {
+    for p in 0..16 {
         row[p] = table[first + step * p];
-        p += 1;
     }
     row
 }
 
-// The lines of all transitions written to a position; the position behind them.
-fn put_table(out: &mut [u8], at: usize, net: Net) -> usize
-    requires { net.transitions ≤ 32 }
-    ensures { Puts out.old at ((rows net.places net.transitions).text (rows_of net)) result out.new }
+// The lines of all transitions.
+fn put_table(w: &mut Writer, net: Net)
+    requires { (net.places ≤ 16) × (net.transitions ≤ 32) }
+    ensures { Writes w.old ((rows net.places net.transitions).text (rows_of net)) w.new }
 {
-    let places = net.places;
-    let transitions = net.transitions;
-    let mut to = at;
-    let mut t: usize = 0;
-    while t < transitions {
+    for t in 0..net.transitions {
         let take = row_of(&net.take, t, 32);
         let give = row_of(&net.give, 16 * t, 1);
-        let at_take = put_interval(&mut *out, to, net.table[t]);
-        to = put_weights(&mut *out, at_take, take, give, places);
-        t += 1;
+        put_interval(w, net.table[t]);
+        put_weights(w, take, give, net.places);
     }
-    to
 }
 
-// The lines `start` written to a position; the position behind them.
-fn put_start(out: &mut [u8], at: usize, start: [u8; 16], places: usize) -> usize
+// The lines `start`.
+fn put_start(w: &mut Writer, start: [u8; 16], places: usize)
     requires { places ≤ 16 }
-    ensures { Puts out.old at ((starts places).text start) result out.new }
+    ensures { Writes w.old ((starts places).text start) w.new }
 {
-    let mut to = at;
-    let mut i: usize = 0;
-    while i < places {
-        to = form::put_number_line(&mut *out, to, b"start=", start[i] as u64);
-        i += 1;
+    for i in 0..places {
+        form::put_number_line(w, b"start=", start[i] as u64);
     }
-    to
 }
 
-// The card of a net written to a position; the position behind it.
-fn put_net(out: &mut [u8], at: usize, net: Net) -> usize
+// The lines of a net.
+fn put_lines(w: &mut Writer, net: Net)
     requires { (net.places ≤ 16) × (net.transitions ≤ 32) }
-    ensures { Puts out.old at (net_card.text net) result out.new }
+    ensures { Writes w.old (net_card.text net) w.new }
 {
-    let places = net.places;
-    let transitions = net.transitions;
-    let at_places = form::put_number_line(&mut *out, at, b"sheet=", net.sheet as u64);
-    let to = form::put_number_line(&mut *out, at_places, b"places=", places as u64);
-    let at_start = form::put_number_line(&mut *out, to, b"transitions=", transitions as u64);
-    let start = net.start;
-    let at_table = put_start(&mut *out, at_start, start, places);
-    put_table(out, at_table, net)
+    form::put_number_line(w, b"sheet=", net.sheet as u64);
+    form::put_number_line(w, b"places=", net.places as u64);
+    form::put_number_line(w, b"transitions=", net.transitions as u64);
+    put_start(w, net.start, net.places);
+    put_table(w, net);
+}
+
+// The card of a net at the front of an output, and how many bytes it has.
+fn put_net(out: &mut [u8], net: Net) -> usize
+    requires { (net.places ≤ 16) × (net.transitions ≤ 32) }
+    ensures { Puts out.old 0 (net_card.text net) result out.new }
+{
+    let mut w = Writer::new(out);
+    put_lines(&mut w, net);
+    w.at
 }
 
 // Writes the card of a net that passes its check. No card has more than 5,444 bytes.
-pub fn write_net(net: Net, out: &mut [u8]) -> Reply
+pub fn write_net(net: Net, out: &mut [u8]) -> Result<usize, Refusal>
     ensures { Responded (net_text net) out.old result out.new }
 {
-    let c = check_net(net);
-    match c {
-        Checked::Refused(r) => Reply::Refused(r),
-        Checked::Passed => {
-            let mut card = [0u8; 5444];
-            let n = put_net(&mut card, 0, net);
-            reply::respond(&card[..n], out)
-        }
-    }
+    check_net(net)?;
+    let mut card = [0u8; 5444];
+    let n = put_net(&mut card, net);
+    reply::respond(&card[..n], out)
 }

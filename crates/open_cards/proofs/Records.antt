@@ -1,13 +1,13 @@
 -- A record that stands as two cards: a step or a call on it comes to what it comes to over the cards. Where these are refused, the record is closed.
+use Rattle.std.proofs.Common.{ℕ, ◌≡◌, arith}
 use Prim.Native.Nat.{ℕ}
 use mathlib.Core.Path.{◌≡◌, refl, sym, ap, subst, ◌∙◌}
-use mathlib.Core.Bool.{true, false}
+use mathlib.Core.Bool.{true}
 use mathlib.Core.List.{List}
+use Rattle.std.specs.Prelude.{Ok, Err}
+use Rattle.reply.specs.declared.Refusal.{Refusal}
 use Rattle.reply.specs.declared.Refusal.TheVariants.{ClosedRun}
-use Rattle.reply.specs.declared.Checked.{Checked}
-use Rattle.reply.specs.declared.Checked.TheVariants.{Passed}
-use Rattle.reply.specs.declared.Reply.{Reply}
-use Rattle.reply.specs.Respond.{Outcome, refusal, Responded, output_of}
+use Rattle.reply.specs.Respond.{Outcome, refusal, Responded, output_of, Checked, Passed, Reply}
 use Rattle.form.specs.Form.{Found, found, refused}
 use Rattle.net.specs.declared.Net.{Net}
 use Rattle.run.specs.declared.Run.{Run}
@@ -15,11 +15,11 @@ use Rattle.cards.specs.Cards.{run_cards, run_checked, run_text}
 use Rattle.open_run.specs.declared.OpenRun.{OpenRun}
 use Rattle.open_run.specs.declared.Entered.{Entered}
 use Rattle.open_run.specs.declared.Closing.{Closing}
-use Rattle.open_run.specs.Open.{is_open, entering, wait_of, fire_of, close_of, closing, state_of, timetable_now}
-use Rattle.open_run.specs.Cards.{on_record, card_after, wait_cards, fire_cards, close_cards, state_cards, timetable_now_cards}
-use Rattle.open_run.proofs.Opened.{open_parts, closed_still}
+use Rattle.open_run.specs.Open.{is_open, entering, close_of, closing}
+use Rattle.open_run.specs.Cards.{on_record, card_after}
+use Rattle.open_run.proofs.Opened.{open_parts}
 use Rattle.open_run.proofs.Accepted.{entering_accepts}
-use Rattle.open_cards.specs.Code.{Holds}
+use Rattle.open_cards.specs.Code.{record_of}
 
 -- ---- the card behind a step that leaves an open record
 pub entered_card : (before after : OpenRun) (c : Checked) → (c ≡ Passed → is_open after ≡ true) → {e : Entered} → e ≡ entering c before after
@@ -32,35 +32,31 @@ pub entered_answered : (e : Entered) {entry : List ℕ} {q : Reply} {exit : List
     → Responded (run_text e.run.net e.run.run) entry q exit → Responded (card_after e) entry q exit
 entered_answered e p h v = rw p (rw h at v)
 
--- ---- steps and calls
-not_running : (r : OpenRun) → r.running ≡ false → is_open r ≡ false
-unfolding is_open
-not_running r e = rw e refl
+-- ---- steps and calls on the record that was read
+module _ (s : List ℕ) where
+  -- no open run
+  pub no_record : {e : Refusal} → record_of (run_cards s) ≡ Err e → (f : OpenRun → Outcome) → on_record (run_cards s) f ≡ refusal e
+  no_record {e} = go (run_cards s)
+    where
+      go : (x : Found (Net × Run)) → record_of x ≡ Err e → (f : OpenRun → Outcome) → on_record x f ≡ refusal e
+      go (found v next) p f = let z : ◌≡◌ {A = ℕ} 0 1 = cc in absurd (omega arith)
+      go (refused q) p f = let same : ClosedRun ≡ e = cc in rw same refl
 
--- f is 15 for every closed record
-on_record_lem : (f : OpenRun → Outcome) → ((r : OpenRun) → is_open r ≡ false → f r ≡ refusal ClosedRun) → (x : Found (Net × Run)) {r : OpenRun} → Holds x r
-    → f r ≡ on_record x f
-on_record_lem f closed (found v next) h = ap f h
-on_record_lem f closed (refused e) {r} h = closed r (not_running r h)
+  pub on_record_lem : {r : OpenRun} → record_of (run_cards s) ≡ Ok r → (f : OpenRun → Outcome) → on_record (run_cards s) f ≡ f r
+  on_record_lem {r} = go (run_cards s)
+    where
+      go : (x : Found (Net × Run)) → record_of x ≡ Ok r → (f : OpenRun → Outcome) → on_record x f ≡ f r
+      go (found v next) p f = let same : ◌≡◌ {A = OpenRun} (record { net = v.0; run = v.1; running = true }) r = cc in ap f same
+      go (refused q) p f = let z : ◌≡◌ {A = ℕ} 0 1 = cc in absurd (omega arith)
 
-module _ (s : List ℕ) (r : OpenRun) (h : Holds (run_cards s) r) {entry : List ℕ} {q : Reply} {exit : List ℕ} where
-  answered : {o : Outcome} (f : OpenRun → Outcome) → ((x : OpenRun) → is_open x ≡ false → f x ≡ refusal ClosedRun) → o ≡ f r → Responded o entry q exit
-      → Responded (on_record (run_cards s) f) entry q exit
-  answered f closed is v = subst (λ (o : Outcome). Responded o entry q exit) (is ∙ on_record_lem f closed (run_cards s) h) v
+  pub record_refused : {e : Refusal} → record_of (run_cards s) ≡ Err e → (f : OpenRun → Outcome) (out : List ℕ)
+      → Responded (on_record (run_cards s) f) out (Err e) out
+  record_refused p f out = rw (no_record p f) (record { reply = refl; output = refl })
 
-  pub wait_answered : (w : ℕ) {e : Entered} → e ≡ wait_of r w → Responded (card_after e) entry q exit → Responded (wait_cards s w) entry q exit
-  wait_answered w is v = answered (λ x. card_after (wait_of x w)) (λ x o. rw (closed_still x o) refl) (ap card_after is) v
+  pub record_answered : {r : OpenRun} → record_of (run_cards s) ≡ Ok r → (f : OpenRun → Outcome) {o : Outcome} {entry : List ℕ} {q : Reply} {exit : List ℕ}
+      → o ≡ f r → Responded o entry q exit → Responded (on_record (run_cards s) f) entry q exit
+  record_answered p f {o} {entry} {q} {exit} is v = subst (λ (x : Outcome). Responded x entry q exit) (is ∙ sym (on_record_lem p f)) v
 
-  pub fire_answered : (t : ℕ) {e : Entered} → e ≡ fire_of r t → Responded (card_after e) entry q exit → Responded (fire_cards s t) entry q exit
-  fire_answered t is v = answered (λ x. card_after (fire_of x t)) (λ x o. rw (closed_still x o) refl) (ap card_after is) v
-
-  pub state_answered : Responded (state_of r) entry q exit → Responded (state_cards s) entry q exit
-  state_answered v = answered state_of (λ x o. rw (closed_still x o) refl) refl v
-
-  pub timetable_answered : Responded (timetable_now r) entry q exit → Responded (timetable_now_cards s) entry q exit
-  timetable_answered v = answered timetable_now (λ x o. rw (closed_still x o) refl) refl v
-
-pub close_answered : (s : List ℕ) (r : OpenRun) (w : ℕ) {c : Closing} {entry exit : List ℕ} → Holds (run_cards s) r
-    → (c ≡ closing r w entry) × (exit ≡ output_of (close_of r w) entry) → Responded (close_cards s w) entry c.reply exit
-close_answered s r w {c} h is =
-    answered s r h (λ x. close_of x w) (λ x o. rw (closed_still x o) refl) refl (record { reply = ap (λ (x : Closing). x.reply) is.0; output = is.1 })
+pub closing_answered : (r : OpenRun) (w : ℕ) {c : Closing} {entry exit : List ℕ} → (c ≡ closing r w entry) × (exit ≡ output_of (close_of r w) entry)
+    → Responded (close_of r w) entry c.reply exit
+closing_answered r w is = record { reply = ap (λ (x : Closing). x.reply) is.0; output = is.1 }

@@ -3,203 +3,128 @@
 #![tactic(auto)]
 
 ghost use Rattle.std.specs.Prelude.{◌≡◌};
-ghost use Rattle.reply.specs.declared.Checked.TheVariants.{Passed};
-ghost use Rattle.reply.specs.Respond.{Responded};
-ghost use Rattle.form.specs.Form.{refused, front, alone};
-ghost use Rattle.form.specs.Code.{number_line};
+ghost use Rattle.reply.specs.Respond.{Passed, Responded};
+ghost use Rattle.form.specs.Form.{front, alone};
 ghost use Rattle.cards.specs.Cards.{run_checked, run_cards};
 ghost use Rattle.net.specs.Net.{net_card};
 ghost use Rattle.operations.specs.Operation.{once_read};
 ghost use Rattle.open_run.specs.Cards.{denominator, opening, open_cards, opened_card, card_after, wait_cards, fire_cards, close_cards, state_cards, timetable_now_cards};
-ghost use Rattle.open_cards.specs.Code.{opening_read, opening_on, Holds};
+ghost use Rattle.open_cards.specs.Code.{opening_read, opening_on, record_of};
 
-use form::{LineRead, NumberLine};
 use net::Net;
 use open_run::{Entered, OpenRun};
-use reply::{Checked, Refusal, Reply};
+use reply::Refusal;
 use run::Memory;
-use run_card::MemoryLine;
-
-// What the lines say that open a run, or why they are refused.
-#[derive(Clone, Copy)]
-pub struct OpeningRead {
-    pub read: LineRead,
-    pub memory: Memory,
-    pub denominator: u32,
-}
 
 // ---- opening
 
-// What stands for lines that are refused.
-fn refused_opening(e: Refusal) -> OpeningRead
-    ensures { result ≡ opening_read (refused e) }
-{
-    OpeningRead {
-        read: LineRead::Stopped(e),
-        memory: Memory::Intermediate,
-        denominator: 0,
-    }
-}
-
 // The line `denominator`, number 3; outside its range it is 2 at 0.
-fn denominator_line(s: &[u8], at: usize) -> NumberLine
-    ensures { result ≡ number_line (denominator.read s.now at 3) }
+fn denominator_line(s: &[u8], at: usize) -> Result<(u32, usize), Refusal>
+    ensures { result ≡ denominator.read s.now at 3 }
 {
-    let n = form::number_line(s, at, b"denominator=", 0, 999999999, 3);
-    match n {
-        NumberLine::Refused(e) => NumberLine::Refused(e),
-        NumberLine::Value { value, next } => {
-            let c = form::check_range(value as u64, 1, 1000, 0);
-            match c {
-                Checked::Refused(e) => NumberLine::Refused(e),
-                Checked::Passed => NumberLine::Value { value, next },
-            }
-        }
-    }
+    let (value, next) = form::number_line(s, at, b"denominator=", 0, 999999999, 3)?;
+    form::check_range(value as u64, 1, 1000, 0)?;
+    Ok((value, next))
 }
 
 // The lines of an opening behind its sheet.
-fn opening_on_sheet(s: &[u8], at: usize) -> OpeningRead
-    ensures { result ≡ opening_read (opening_on s.now at) }
+fn opening_on_sheet(s: &[u8], at: usize) -> Result<((Memory, u32), usize), Refusal>
+    ensures { result ≡ opening_on s.now at }
 {
-    let m = run_card::memory_line(s, at, 2);
-    match m {
-        MemoryLine::Refused(e) => refused_opening(e),
-        MemoryLine::Value {
-            memory,
-            next: behind,
-        } => {
-            let d = denominator_line(s, behind);
-            match d {
-                NumberLine::Refused(e) => refused_opening(e),
-                NumberLine::Value { value, next } => OpeningRead {
-                    read: LineRead::Next(next),
-                    memory,
-                    denominator: value,
-                },
-            }
-        }
-    }
+    let (memory, behind) = run_card::memory_line(s, at, 2)?;
+    let (denominator, next) = denominator_line(s, behind)?;
+    Ok(((memory, denominator), next))
 }
 
-// Reads the lines that open a run on a net's sheet, at the front of an input.
-pub fn read_opening(s: &[u8], own: u32) -> OpeningRead
+// Reads the lines that open a run on a net's sheet, at the front of an input: the memory rule and the denominator, and the position behind the lines.
+pub fn read_opening(s: &[u8], own: u32) -> Result<((Memory, u32), usize), Refusal>
     ensures { result ≡ opening_read (front (opening own) s.now) }
 {
-    let n = form::sheet_line(s, 0, own, 1);
-    match n {
-        NumberLine::Refused(e) => refused_opening(e),
-        NumberLine::Value { value: _, next } => opening_on_sheet(s, next),
-    }
+    let (_, next) = form::sheet_line(s, 0, own, 1)?;
+    opening_on_sheet(s, next)
 }
 
 // The card of the run behind a step, as the answer.
-fn respond_entered(e: Entered, out: &mut [u8]) -> Reply
+fn respond_entered(e: Entered, out: &mut [u8]) -> Result<usize, Refusal>
     requires { e.checked ≡ Passed → run_checked e.run.net e.run.run ≡ Passed }
     ensures { Responded (card_after e) out.old result out.new }
 {
-    let c = e.checked;
-    match c {
-        Checked::Refused(why) => Reply::Refused(why),
-        Checked::Passed => run_card::write_run(e.run.net, e.run.run, out),
-    }
+    e.checked?;
+    run_card::write_run(e.run.net, e.run.run, out)
 }
 
 // Opens a run on a net that was read, by the lines behind it.
-fn open_behind(net: Net, s: &[u8], out: &mut [u8]) -> Reply
+fn open_behind(net: Net, s: &[u8], out: &mut [u8]) -> Result<usize, Refusal>
     requires { net_card.check net 1 ≡ Passed }
     ensures { Responded (once_read (alone (opening net.sheet) s.now) (opened_card net)) out.old result out.new }
 {
-    let o = read_opening(s, net.sheet);
-    let read = o.read;
-    match read {
-        LineRead::Stopped(e) => Reply::Refused(e),
-        LineRead::Next(next) => {
-            if next < s.len() {
-                return Reply::Refused(Refusal::Malformed(4));
-            }
-            let memory = o.memory;
-            let e = entering::open_on(net, memory, o.denominator);
-            respond_entered(e, out)
-        }
+    let ((memory, denominator), next) = read_opening(s, net.sheet)?;
+    if next < s.len() {
+        return Err(Refusal::Malformed(4));
     }
+    respond_entered(entering::open_on(net, memory, denominator), out)
 }
 
 // Opens a run: a net card and, right behind it, the lines `sheet`, `memory` and `denominator`.
-pub fn open_cards(input: &[u8], out: &mut [u8]) -> Reply
+pub fn open_cards(input: &[u8], out: &mut [u8]) -> Result<usize, Refusal>
     ensures { Responded (open_cards input.now) out.old result out.new }
 {
-    let n = net_card::read_net(input);
-    let read = n.read;
-    match read {
-        LineRead::Stopped(e) => Reply::Refused(e),
-        LineRead::Next(_) => {
-            let behind = net_card::remainder(input, read);
-            open_behind(n.net, behind, out)
-        }
-    }
+    let (net, next) = net_card::read_net(input)?;
+    open_behind(net, net_card::remainder(input, next), out)
 }
 
 // ---- steps and calls
 
-// The record that two cards stand for; a closed one where they are refused.
-fn record_in(input: &[u8]) -> OpenRun
-    ensures { Holds (run_cards input.now) result }
+// The record that two cards stand for; cards that are refused are no open run.
+fn record_in(input: &[u8]) -> Result<OpenRun, Refusal>
+    ensures { result ≡ record_of (run_cards input.now) }
 {
-    let n = net_card::read_net(input);
-    let net = n.net;
-    let net_read = n.read;
-    let r = run_card::run_behind(input, net_read, net.sheet, net.transitions, true);
-    let run = r.run;
-    let read = r.read;
-    match read {
-        LineRead::Stopped(_) => OpenRun {
-            net,
-            run,
-            running: false,
-        },
-        LineRead::Next(_) => OpenRun {
+    match run_card::net_and_run(input) {
+        Ok((net, run)) => Ok(OpenRun {
             net,
             run,
             running: true,
-        },
+        }),
+        Err(_) => Err(Refusal::ClosedRun),
     }
 }
 
 // Enters a wait: the card of the run with it added.
-pub fn wait_cards(input: &[u8], parts: u32, out: &mut [u8]) -> Reply
+pub fn wait_cards(input: &[u8], parts: u32, out: &mut [u8]) -> Result<usize, Refusal>
     ensures { Responded (wait_cards input.now parts) out.old result out.new }
 {
-    let e = entering::enter_wait(record_in(input), parts);
-    respond_entered(e, out)
+    let run = record_in(input)?;
+    respond_entered(entering::enter_wait(run, parts), out)
 }
 
 // Enters a firing: the card of the run with it added.
-pub fn fire_cards(input: &[u8], t: u32, out: &mut [u8]) -> Reply
+pub fn fire_cards(input: &[u8], t: u32, out: &mut [u8]) -> Result<usize, Refusal>
     ensures { Responded (fire_cards input.now t) out.old result out.new }
 {
-    let e = entering::enter_fire(record_in(input), t);
-    respond_entered(e, out)
+    let run = record_in(input)?;
+    respond_entered(entering::enter_fire(run, t), out)
 }
 
 // Closes a run with a rest: its card.
-pub fn close_cards(input: &[u8], rest: u32, out: &mut [u8]) -> Reply
+pub fn close_cards(input: &[u8], rest: u32, out: &mut [u8]) -> Result<usize, Refusal>
     ensures { Responded (close_cards input.now rest) out.old result out.new }
 {
-    let c = entering::finish(record_in(input), rest, out);
-    c.reply
+    let run = record_in(input)?;
+    entering::finish(run, rest, out).reply
 }
 
 // The end marking and the clocks, where a run stands.
-pub fn state_cards(input: &[u8], out: &mut [u8]) -> Reply
+pub fn state_cards(input: &[u8], out: &mut [u8]) -> Result<usize, Refusal>
     ensures { Responded (state_cards input.now) out.old result out.new }
 {
-    entering::state(record_in(input), out)
+    let run = record_in(input)?;
+    entering::state(run, out)
 }
 
 // The earliest timetable of the firings so far.
-pub fn timetable_cards(input: &[u8], out: &mut [u8]) -> Reply
+pub fn timetable_cards(input: &[u8], out: &mut [u8]) -> Result<usize, Refusal>
     ensures { Responded (timetable_now_cards input.now) out.old result out.new }
 {
-    entering::timetable(record_in(input), out)
+    let run = record_in(input)?;
+    entering::timetable(run, out)
 }

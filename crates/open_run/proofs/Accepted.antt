@@ -1,5 +1,7 @@
 -- A step is accepted exactly if the run with it added is: its check has the parts of the card's check and of the replay that the record does not have already.
 -- What an accepted step leaves is open again, and what is found against a step has the number of its part and the place of the firing being entered.
+use Rattle.reply.specs.Respond.{Checked, Passed}
+use Rattle.std.specs.Prelude.{Err}
 use Prim.Native.Nat.{ℕ, ◌≤◌, ◌<◌}
 use native.Mathlib.Omega.{arith}
 use mathlib.Core.Path.{◌≡◌, refl, sym, ap, ◌∙◌}
@@ -10,8 +12,6 @@ use lib.ListN.{length-set, length-replicate, get_or-replicate}
 use lib.Seq.{get_or-set_other}
 use Rattle.laws.specs.Slots.{first_of}
 use Rattle.reply.specs.declared.Refusal.{Refusal}
-use Rattle.reply.specs.declared.Checked.{Checked}
-use Rattle.reply.specs.declared.Checked.TheVariants.{Passed, Refused}
 use Rattle.form.proofs.Found.{also_first, also_second}
 use Rattle.form.proofs.Lines.{ranged_within}
 use Rattle.net.specs.declared.Net.{Net}
@@ -39,16 +39,16 @@ use Rattle.open_run.proofs.Opened.{wait_fits, wait_passes, replayed_waited, blan
 module _ (before after : OpenRun) where
   pub entering_accepts : (c : Checked) → (entering c before after).checked ≡ Passed → (c ≡ Passed) × ((entering c before after).run ≡ after)
   entering_accepts Passed p = (refl, refl)
-  entering_accepts (Refused e) p = let z : ◌≡◌ {A = ℕ} 0 1 = cc in absurd (omega arith)
+  entering_accepts (Err e) p = let z : ◌≡◌ {A = ℕ} 0 1 = cc in absurd (omega arith)
 
-  pub entering_refuses : (c : Checked) {e : Refusal} → (entering c before after).checked ≡ Refused e
-      → (c ≡ Refused e) × ((entering c before after).run ≡ before)
+  pub entering_refuses : (c : Checked) {e : Refusal} → (entering c before after).checked ≡ Err e
+      → (c ≡ Err e) × ((entering c before after).run ≡ before)
   entering_refuses Passed p = let z : ◌≡◌ {A = ℕ} 0 1 = cc in absurd (omega arith)
-  entering_refuses (Refused e) p = (p, refl)
+  entering_refuses (Err e) p = (p, refl)
 
   pub entering_told : (c : Checked) → (entering c before after).checked ≡ c
   entering_told Passed = refl
-  entering_told (Refused e) = refl
+  entering_told (Err e) = refl
 
 -- ---- an accepted step leaves an open record
 pub open_waited : (r : OpenRun) (w : ℕ) → wait_checked r w ≡ Passed → is_open (with_run r (wait_added r.run w)) ≡ true

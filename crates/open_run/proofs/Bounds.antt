@@ -1,4 +1,5 @@
 -- How long the answers over cards are and which places their refusals have, for a caller that is told both in one number; and all that demand 1 asks of replies.
+use Rattle.std.specs.Prelude.{Err}
 use Prim.Native.Nat.{ℕ, ◌≤◌}
 use native.Mathlib.Omega.{arith}
 use mathlib.Core.Path.{◌≡◌, refl, sym, ap, ◌∙◌}
@@ -7,10 +8,8 @@ use mathlib.Core.List.{List}
 use lib.ListN.{length}
 use Rattle.reply.specs.declared.Refusal.{Refusal}
 use Rattle.reply.specs.declared.Refusal.TheVariants.{OutputTooShort, ClosedRun}
-use Rattle.reply.specs.declared.Checked.{Checked}
-use Rattle.reply.specs.declared.Checked.TheVariants.{Passed, Refused}
 use Rattle.reply.specs.Refusal.{number_of, position_of}
-use Rattle.reply.specs.Respond.{Outcome, answer, refusal, written_if}
+use Rattle.reply.specs.Respond.{Outcome, answer, refusal, written_if, Checked, Passed}
 use Rattle.reply.specs.Demanded.{Demanded}
 use Rattle.reply.proofs.Bounds.{Bounds}
 use Rattle.reply.proofs.Laws.{demanded, written_answer, checked_refused}
@@ -41,7 +40,7 @@ record Settled (o : Outcome) (longest : ℕ) : Type 0 where
 
 -- ---- records
 -- the card of an open record
-card_settled : (c : Checked) (q : OpenRun) → (c ≡ Passed → is_open q ≡ true) → ((e : Refusal) → c ≡ Refused e → Own e) → Settled (written_if c (card_for q)) 2048
+card_settled : (c : Checked) (q : OpenRun) → (c ≡ Passed → is_open q ≡ true) → ((e : Refusal) → c ≡ Err e → Own e) → Settled (written_if c (card_for q)) 2048
 card_settled c q stays own =
     record {
       short = λ bytes e.
@@ -55,10 +54,10 @@ module _ (r : OpenRun) where
   close_settled w = card_settled (wait_checked r w) (with_run r (wait_added r.run w)) (open_waited r w) (λ e p. wait_own r w p)
 
   -- the card behind a step
-  after_settled : (later : OpenRun) (c : Checked) → (c ≡ Passed → is_open later ≡ true) → ((e : Refusal) → c ≡ Refused e → Own e)
+  after_settled : (later : OpenRun) (c : Checked) → (c ≡ Passed → is_open later ≡ true) → ((e : Refusal) → c ≡ Err e → Own e)
       → Settled (card_after (entering c r later)) 2048
   after_settled later Passed stays own = card_settled Passed later stays own
-  after_settled later (Refused q) stays own = record { short = λ bytes e. absurd (no_answer e); own = λ e p. own e (checked_refused (Refused q) (card_for r) p) }
+  after_settled later (Err q) stays own = record { short = λ bytes e. absurd (no_answer e); own = λ e p. own e (checked_refused (Err q) (card_for r) p) }
 
   wait_settled : (w : ℕ) → Settled (card_after (wait_of r w)) 2048
   wait_settled w = after_settled (with_run r (wait_added r.run w)) (wait_checked r w) (open_waited r w) (λ e p. wait_own r w p)

@@ -5,9 +5,7 @@ use native.Mathlib.Omega.{arith}
 use mathlib.Core.Path.{◌≡◌, refl, sym, ap, subst, ◌∙◌}
 use mathlib.Core.Bool.{true}
 use mathlib.Core.List.{List, ◌++◌}
-use Rattle.reply.specs.declared.Checked.{Checked}
-use Rattle.reply.specs.declared.Checked.TheVariants.{Passed}
-use Rattle.reply.specs.Respond.{answer, Answered}
+use Rattle.reply.specs.Respond.{answer, Answered, Checked, Passed}
 use Rattle.form.specs.Form.{found}
 use Rattle.form.proofs.Found.{found_value}
 use Rattle.net.specs.Net.{net_card}

@@ -1,4 +1,6 @@
 -- A firing entered behind an open run is judged where the run stands: those before it pass again, so that the replay of the run with it added comes to it alone.
+use Rattle.reply.specs.Respond.{Checked, Passed}
+use Rattle.std.specs.Prelude.{Err}
 use Prim.Native.Nat.{ℕ, suc, ◌+◌, ◌<◌, min}
 use native.Mathlib.Nat.{min-eq_left}
 use native.Mathlib.Omega.{arith}
@@ -8,8 +10,6 @@ use mathlib.Core.List.{List, [], ◌∷◌, ◌++◌}
 use lib.ListN.{length}
 use Rattle.laws.specs.Each.{Each, each_mapped, each_map}
 use Rattle.laws.specs.Slots.{first_mapped}
-use Rattle.reply.specs.declared.Checked.{Checked}
-use Rattle.reply.specs.declared.Checked.TheVariants.{Passed, Refused}
 use Rattle.net.specs.declared.Net.{Net}
 use Rattle.run.specs.declared.Firing.{Firing}
 use Rattle.run.specs.declared.Run.{Run}
@@ -30,7 +30,7 @@ use Rattle.open_run.proofs.Opened.{open_parts, open_fits, open_net, added, firin
 -- one firing is judged, and nothing comes behind it
 step_told : (c : Checked) (st : State) (later : Played) → later.checked ≡ Passed → (step_on c st later).checked ≡ c
 step_told Passed st later e = e
-step_told (Refused r) st later e = refl
+step_told (Err r) st later e = refl
 
 module _ (net : Net) (restarts : Restart) (D : ℕ) where
   play_one : (f : Firing) (st : State) (n : ℕ) → (play net restarts D (f ∷ []) st n).checked ≡ judged net D (waited st f.wait) f.fire (n + 1)

@@ -1,4 +1,6 @@
 -- What an open record says of its run, and a step's check of the record: each is a test or a check whose parts all passed.
+use Rattle.reply.specs.Respond.{Checked, Passed}
+use Rattle.std.specs.Prelude.{Err}
 use Prim.Native.Nat.{ℕ, suc, ◌+◌, ◌≤◌, ◌<◌, min}
 use native.Mathlib.Nat.{min-eq_left}
 use native.Mathlib.Omega.{arith}
@@ -13,8 +15,6 @@ use Rattle.laws.specs.Tests.{all_at, all_each}
 use Rattle.laws.specs.Each.{each_append, each_last}
 use Rattle.laws.specs.Slots.{first_set}
 use Rattle.reply.specs.declared.Refusal.TheVariants.{ClosedRun}
-use Rattle.reply.specs.declared.Checked.{Checked}
-use Rattle.reply.specs.declared.Checked.TheVariants.{Passed, Refused}
 use Rattle.form.specs.Line.{ranged, listed}
 use Rattle.form.proofs.Found.{also_first, also_second}
 use Rattle.form.proofs.Lines.{ranged_within}
@@ -34,7 +34,7 @@ use Rattle.open_run.specs.Open.{passes, blank, blank_behind, is_open, still, wai
 -- ---- tests
 passes_passed : (c : Checked) → passes c ≡ true → c ≡ Passed
 passes_passed Passed e = refl
-passes_passed (Refused r) e = let z : ◌≡◌ {A = ℕ} 0 1 = cc in absurd (omega arith)
+passes_passed (Err r) e = let z : ◌≡◌ {A = ℕ} 0 1 = cc in absurd (omega arith)
 
 -- ---- an open record
 -- the parts of the test
@@ -71,14 +71,14 @@ module _ (r : OpenRun) where
   pub still_open : still r ≡ Passed → is_open r ≡ true
   still_open = go (is_open r)
     where
-      go : (b : Bool) → cond b Passed (Refused ClosedRun) ≡ Passed → b ≡ true
+      go : (b : Bool) → cond b Passed (Err ClosedRun) ≡ Passed → b ≡ true
       go true e = refl
       go false e = let z : ◌≡◌ {A = ℕ} 0 1 = cc in absurd (omega arith)
 
   pub open_still : is_open r ≡ true → still r ≡ Passed
   open_still e = rw e refl
 
-  pub closed_still : is_open r ≡ false → still r ≡ Refused ClosedRun
+  pub closed_still : is_open r ≡ false → still r ≡ Err ClosedRun
   closed_still e = rw e refl
 
   module _ (o : is_open r ≡ true) where

@@ -1,5 +1,7 @@
 -- The lines that open a run: what is read from them stands behind a net that passes its check and has its denominator in its range, so that it opens; and what
 -- is refused is refused at one of the lines or, for the range of the denominator, at 0.
+use Rattle.reply.specs.Respond.{Checked, Passed}
+use Rattle.std.specs.Prelude.{None, Option, Some}
 use Prim.Native.Nat.{ℕ, ◌+◌, ◌≤◌}
 use native.Mathlib.Omega.{arith}
 use mathlib.Core.Path.{◌≡◌, sym, ap, subst}
@@ -9,11 +11,7 @@ use lib.ListN.{length, take, drop}
 use lib.Dec.{leb, lit<}
 use Rattle.reply.specs.declared.Refusal.{Refusal}
 use Rattle.reply.specs.declared.Refusal.TheVariants.{Malformed, OutOfRange}
-use Rattle.reply.specs.declared.Checked.{Checked}
-use Rattle.reply.specs.declared.Checked.TheVariants.{Passed}
 use Rattle.reply.specs.Refusal.{number_of, position_of}
-use Rattle.text.specs.declared.NumberRead.{NumberRead}
-use Rattle.text.specs.declared.NumberRead.TheVariants.{Value, NoNumber}
 use Rattle.text.specs.Key.{bytes, begins_with}
 use Rattle.text.specs.Number.{field_at}
 use Rattle.form.specs.Form.{Found, found, refused, and_then, found_if, keyed, chain, front, alone}
@@ -81,10 +79,10 @@ denominator_refused s at {e} = go (begins_with (bytes "denominator=") (drop at s
         let same : Malformed 3 ≡ e = refused_same p in
         (omega (arith, ap position_of same), λ z. omega (arith, ap position_of same, ap position_of z))
 
-    go : (t : Bool) (x : NumberRead) → cond t (and_then (formed 3 x) (λ n next. found_if (ranged 1 1000 n 0) n next)) (refused (Malformed 3)) ≡ refused e → Own e
+    go : (t : Bool) (x : Option (ℕ × ℕ)) → cond t (and_then (formed 3 x) (λ n next. found_if (ranged 1 1000 n 0) n next)) (refused (Malformed 3)) ≡ refused e → Own e
     go false x p = malformed p
-    go true NoNumber p = malformed p
-    go true (Value n next) p =
+    go true None p = malformed p
+    go true (Some (n, next)) p =
         let same = test_refused (leb 1 n && leb n 1000) (OutOfRange 0) (judged_refused (ranged 1 1000 n 0) n next p) in
         (omega (arith, ap position_of same), λ z. omega (arith, ap number_of same, ap number_of z))
 

@@ -8,8 +8,7 @@ use mathlib.Core.Logic.{◌↔◌}
 use mathlib.Core.List.{List, map}
 use lib.ListN.{length, get_or, length-map, get_or-eq_default}
 use Rattle.laws.specs.Slots.{first_of, pad_to, length_first, length_pad, get_d_padded}
-use Rattle.reply.specs.declared.Checked.TheVariants.{Passed}
-use Rattle.reply.specs.Respond.{Outcome}
+use Rattle.reply.specs.Respond.{Outcome, Passed}
 use Rattle.form.specs.Form.{Found, found}
 use Rattle.form.proofs.Found.{found_value}
 use Rattle.net.specs.declared.Net.{Net}

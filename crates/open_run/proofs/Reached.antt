@@ -1,5 +1,6 @@
 -- A record is open exactly if opening and accepted steps leave it: each of them leaves an open record, and an open record is made again by a wait and a firing
 -- for each firing that it holds, and a wait at last.
+use Rattle.reply.specs.Respond.{Passed}
 use Prim.Native.Nat.{ℕ, zero, suc, ◌+◌, ◌-◌, ◌≤◌, ◌<◌, min}
 use native.Mathlib.Nat.{min-eq_left, le_refl}
 use native.Mathlib.Numerals.{add-one}
@@ -13,7 +14,6 @@ use lib.Seq.{ext_get_or, length-take-le, take_all}
 use Rattle.laws.specs.Sums.{le_or_lt}
 use Rattle.laws.specs.Each.{each_at}
 use Rattle.laws.specs.Slots.{pad_to, length_pad, first_pad, get_d_padded, pad_next}
-use Rattle.reply.specs.declared.Checked.TheVariants.{Passed}
 use Rattle.run.specs.declared.Firing.{Firing}
 use Rattle.run.specs.declared.Run.{Run}
 use Rattle.run.specs.Run.{no_firing, firings_of}

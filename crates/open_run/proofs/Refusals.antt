@@ -1,5 +1,7 @@
 -- What is found against a step of an open run: 2 for a sum or a count past its range, 4 for a transition that is not in the net, and what the judgement in the
 -- state where the run stands finds, 5, 7 or 6; each with the place of the firing being entered. So 15 is told of closed records alone.
+use Rattle.reply.specs.Respond.{Checked, Passed}
+use Rattle.std.specs.Prelude.{Err}
 use Prim.Native.Nat.{ℕ, suc, ◌+◌, ◌≤◌, ◌<◌}
 use native.Mathlib.Omega.{arith}
 use mathlib.Core.Path.{◌≡◌, refl, sym, ap, ◌∙◌}
@@ -10,8 +12,6 @@ use borrow.Author.Tests.{lt-ltb, le-ltb, lt-leb, le-leb}
 use Rattle.laws.specs.Sums.{le_or_lt}
 use Rattle.reply.specs.declared.Refusal.{Refusal}
 use Rattle.reply.specs.declared.Refusal.TheVariants.{OutOfRange, NoSuchTransition, OutputTooShort, ClosedRun}
-use Rattle.reply.specs.declared.Checked.{Checked}
-use Rattle.reply.specs.declared.Checked.TheVariants.{Passed, Refused}
 use Rattle.reply.specs.Refusal.{number_of, position_of}
 use Rattle.form.specs.Form.{also}
 use Rattle.form.specs.Line.{ranged, listed}
@@ -35,37 +35,37 @@ use Rattle.open_run.proofs.Opened.{open_still, closed_still, open_fits, fire_pas
 use Rattle.open_run.proofs.Firing.{fire_judged}
 
 -- ---- checks that refuse
-pub not_passed : {e : Refusal} → Passed ≡ Refused e → ⊥
+pub not_passed : {e : Refusal} → Passed ≡ Err e → ⊥
 not_passed e = let z : ◌≡◌ {A = ℕ} 0 1 = cc in omega arith
 
-refused_one : {a b : Refusal} → Refused a ≡ Refused b → a ≡ b
+refused_one : {a b : Refusal} → ◌≡◌ {A = Checked} (Err a) (Err b) → a ≡ b
 refused_one e = cc
 
 -- a number is above a range that begins with 0
-above_exactly : (high n line : ℕ) (e : Refusal) → (ranged 0 high n line ≡ Refused e) ↔ ((e ≡ OutOfRange line) × (high < n))
+above_exactly : (high n line : ℕ) (e : Refusal) → (ranged 0 high n line ≡ Err e) ↔ ((e ≡ OutOfRange line) × (high < n))
 above_exactly high n line e = (
   λ p. (sym (test_refused (leb 0 n && leb n high) (OutOfRange line) p), go (le_or_lt n high) p),
   λ h. rw (le-leb 0 n (omega arith), lt-leb n high h.1, h.0) refl,
 )
   where
-    go : (n ≤ high) ⊎ (high < n) → ranged 0 high n line ≡ Refused e → high < n
+    go : (n ≤ high) ⊎ (high < n) → ranged 0 high n line ≡ Err e → high < n
     go (inl l) p = absurd (not_passed (sym (ranged_passes 0 high n line (omega arith) l) ∙ p))
     go (inr l) p = l
 
 -- a transition is not in the net
-unlisted_exactly : (transitions t line : ℕ) (e : Refusal) → (listed transitions t line ≡ Refused e) ↔ ((e ≡ NoSuchTransition line) × (transitions ≤ t))
+unlisted_exactly : (transitions t line : ℕ) (e : Refusal) → (listed transitions t line ≡ Err e) ↔ ((e ≡ NoSuchTransition line) × (transitions ≤ t))
 unlisted_exactly transitions t line e = (
   λ p. (sym (test_refused (ltb t transitions) (NoSuchTransition line) p), go (le_or_lt transitions t) p),
   λ h. rw (le-ltb t transitions h.1, h.0) refl,
 )
   where
-    go : (transitions ≤ t) ⊎ (t < transitions) → listed transitions t line ≡ Refused e → transitions ≤ t
+    go : (transitions ≤ t) ⊎ (t < transitions) → listed transitions t line ≡ Err e → transitions ≤ t
     go (inl l) p = l
     go (inr l) p = absurd (not_passed (rw (lt-ltb t transitions l) at p))
 
 -- ---- a wait, and a rest
 pub wait_refused : (r : OpenRun) (w : ℕ) (e : Refusal) → is_open r ≡ true
-    → (wait_checked r w ≡ Refused e) ↔ ((e ≡ OutOfRange (suc r.run.count)) × (10000000 < r.run.rest + w))
+    → (wait_checked r w ≡ Err e) ↔ ((e ≡ OutOfRange (suc r.run.count)) × (10000000 < r.run.rest + w))
 wait_refused r w e o = rw (open_still r o) (above_exactly 10000000 (r.run.rest + w) (suc r.run.count) e)
 
 -- ---- a firing
@@ -101,10 +101,10 @@ module _ (r : OpenRun) (o : is_open r ≡ true) where
       sound_waited st r.run.rest (play_sound r.net rule D (firings_of r.run) (start_state r.net) 0 (start_sound r.net))
 
   module _ (t : ℕ) where
-    pub fire_many : 64 ≤ r.run.count → fire_checked r t ≡ Refused (OutOfRange place)
+    pub fire_many : 64 ≤ r.run.count → fire_checked r t ≡ Err (OutOfRange place)
     fire_many many = rw (open_still r o, (above_exactly 63 r.run.count place (OutOfRange place)).1 (refl, omega arith)) refl
 
-    pub fire_unlisted : r.run.count < 64 → r.net.transitions ≤ t → fire_checked r t ≡ Refused (NoSuchTransition place)
+    pub fire_unlisted : r.run.count < 64 → r.net.transitions ≤ t → fire_checked r t ≡ Err (NoSuchTransition place)
     fire_unlisted few past =
         rw (
           open_still r o,
@@ -117,11 +117,11 @@ module _ (r : OpenRun) (o : is_open r ≡ true) where
       judged_here : fire_checked r t ≡ judged r.net r.run.denominator (replay r.net rule r.run).state t place
       judged_here = fire_passes r t o few inside ∙ fire_judged r o t few
 
-      pub fire_because : (e : Refusal) → fire_checked r t ≡ Refused e → Because r.net r.run.denominator e place (view (replay r.net rule r.run).state) t
+      pub fire_because : (e : Refusal) → fire_checked r t ≡ Err e → Because r.net r.run.denominator e place (view (replay r.net rule r.run).state) t
       fire_because e p = because r.net r.run.denominator (replay r.net rule r.run).state t place stands_sound e (sym judged_here ∙ p)
 
       pub fire_published : (end : Timed) → Allowed r.net rule r.run.denominator (firings_of r.run) r.run.rest end → (e : Refusal)
-          → (fire_checked r t ≡ Refused e) ↔ Because r.net r.run.denominator e place end t
+          → (fire_checked r t ≡ Err e) ↔ Because r.net r.run.denominator e place end t
       fire_published end a e =
           let st = (replay r.net rule r.run).state in
           let m = same_end r.net rule r.run (rule_restarting r.net r.run.memory) end a in (
@@ -136,7 +136,7 @@ module _ (r : OpenRun) (o : is_open r ≡ true) where
         ⊎ (((e ≡ NoSuchTransition place) × (r.run.count < 64) × (r.net.transitions ≤ t))
         ⊎ ((5 ≤ number_of e) × (number_of e ≤ 7) × (position_of e ≡ place)))
 
-    pub fire_found : (e : Refusal) → fire_checked r t ≡ Refused e → Finding e
+    pub fire_found : (e : Refusal) → fire_checked r t ≡ Err e → Finding e
     fire_found e p = counted (le_or_lt 64 r.run.count)
       where
         inside : r.run.count < 64 → (r.net.transitions ≤ t) ⊎ (t < r.net.transitions) → Finding e
@@ -152,7 +152,7 @@ module _ (r : OpenRun) (o : is_open r ≡ true) where
         counted (inr few) = inside few (le_or_lt r.net.transitions t)
 
     -- so its number is 7 at most, and its place is that of the firing being entered
-    pub fire_small : (e : Refusal) → fire_checked r t ≡ Refused e → (number_of e ≤ 7) × (position_of e ≡ place)
+    pub fire_small : (e : Refusal) → fire_checked r t ≡ Err e → (number_of e ≤ 7) × (position_of e ≡ place)
     fire_small e p = go (fire_found e p)
       where
         go : Finding e → (number_of e ≤ 7) × (position_of e ≡ place)
@@ -163,25 +163,25 @@ module _ (r : OpenRun) (o : is_open r ≡ true) where
 -- ---- a closed record: 15 is told of nothing else
 -- of an open one nothing is told that has another number
 module _ (r : OpenRun) where
-  open_or_closed : {c : Checked} → (is_open r ≡ true → c ≡ Refused ClosedRun → ⊥) → (is_open r ≡ false → c ≡ Refused ClosedRun)
-      → (c ≡ Refused ClosedRun) ↔ (is_open r ≡ false)
+  open_or_closed : {c : Checked} → (is_open r ≡ true → c ≡ Err ClosedRun → ⊥) → (is_open r ≡ false → c ≡ Err ClosedRun)
+      → (c ≡ Err ClosedRun) ↔ (is_open r ≡ false)
   open_or_closed {c} never always = (λ e. go (is_open r) refl e, always)
     where
-      go : (b : Bool) → is_open r ≡ b → c ≡ Refused ClosedRun → b ≡ false
+      go : (b : Bool) → is_open r ≡ b → c ≡ Err ClosedRun → b ≡ false
       go true o e = absurd (never o e)
       go false o e = refl
 
-  pub wait_closed : (w : ℕ) → (wait_checked r w ≡ Refused ClosedRun) ↔ (is_open r ≡ false)
+  pub wait_closed : (w : ℕ) → (wait_checked r w ≡ Err ClosedRun) ↔ (is_open r ≡ false)
   wait_closed w =
       open_or_closed {c = wait_checked r w} (λ o e. omega (arith, ap number_of ((wait_refused r w ClosedRun o).0 e).0))
       (λ o. rw (closed_still r o) refl)
 
-  pub fire_closed : (t : ℕ) → (fire_checked r t ≡ Refused ClosedRun) ↔ (is_open r ≡ false)
+  pub fire_closed : (t : ℕ) → (fire_checked r t ≡ Err ClosedRun) ↔ (is_open r ≡ false)
   fire_closed t =
       open_or_closed {c = fire_checked r t} (λ o e. let h : 15 ≤ 7 = (fire_small r o t ClosedRun e).0 in omega arith)
       (λ o. rw (closed_still r o) refl)
 
-  pub still_closed : (still r ≡ Refused ClosedRun) ↔ (is_open r ≡ false)
+  pub still_closed : (still r ≡ Err ClosedRun) ↔ (is_open r ≡ false)
   still_closed = open_or_closed {c = still r} (λ o e. not_passed (sym (open_still r o) ∙ e)) (closed_still r)
 
 -- ---- so no step finds 9 of its own, and every place is small
@@ -190,7 +190,7 @@ abbrev pub Own : Refusal → Type 0
 Own e = (position_of e ≤ 147) × (e ≡ OutputTooShort → ⊥)
 
 module _ (r : OpenRun) {e : Refusal} where
-  closed_own : (c : Checked) → still r ≡ Refused ClosedRun → also (still r) c ≡ Refused e → Own e
+  closed_own : (c : Checked) → still r ≡ Err ClosedRun → also (still r) c ≡ Err e → Own e
   closed_own c p q =
       let same : ClosedRun ≡ e = refused_one (sym (ap (λ (x : Checked). also x c) p) ∙ q) in
       (omega (arith, ap position_of same), λ z. omega (arith, ap number_of same, ap number_of z))
@@ -198,21 +198,21 @@ module _ (r : OpenRun) {e : Refusal} where
   open_own : is_open r ≡ true → number_of e ≤ 7 → position_of e ≡ suc r.run.count → Own e
   open_own o number place = (omega (arith, (open_fits r o).few), λ z. omega (arith, ap number_of z))
 
-  pub wait_own : (w : ℕ) → wait_checked r w ≡ Refused e → Own e
+  pub wait_own : (w : ℕ) → wait_checked r w ≡ Err e → Own e
   wait_own w p = go (is_open r) refl
     where
       go : (b : Bool) → is_open r ≡ b → Own e
       go true o = let i = ((wait_refused r w e o).0 p).0 in open_own o (omega (arith, ap number_of i)) (ap position_of i)
       go false o = closed_own _ (closed_still r o) p
 
-  pub fire_own : (t : ℕ) → fire_checked r t ≡ Refused e → Own e
+  pub fire_own : (t : ℕ) → fire_checked r t ≡ Err e → Own e
   fire_own t p = go (is_open r) refl
     where
       go : (b : Bool) → is_open r ≡ b → Own e
       go true o = let s = fire_small r o t e p in open_own o s.0 s.1
       go false o = closed_own _ (closed_still r o) p
 
-  pub still_own : still r ≡ Refused e → Own e
+  pub still_own : still r ≡ Err e → Own e
   still_own p = go (is_open r) refl
     where
       go : (b : Bool) → is_open r ≡ b → Own e

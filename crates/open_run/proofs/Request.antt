@@ -1,4 +1,5 @@
 -- Document 02, "The open run": each statement of specs/Request.antt under its own name.
+use Rattle.std.specs.Prelude.{Err}
 use Prim.Native.Nat.{ℕ, suc, ◌≤◌, ◌<◌}
 use native.Mathlib.Omega.{arith}
 use mathlib.Core.Path.{◌≡◌, refl, sym, ap, subst, ◌∙◌}
@@ -10,12 +11,8 @@ use lib.ListN.{length, take}
 use lib.Dec.{leb}
 use Rattle.reply.specs.declared.Refusal.{Refusal}
 use Rattle.reply.specs.declared.Refusal.TheVariants.{OutOfRange, NoSuchTransition, OutputTooShort, ClosedRun}
-use Rattle.reply.specs.declared.Checked.{Checked}
-use Rattle.reply.specs.declared.Checked.TheVariants.{Passed, Refused}
-use Rattle.reply.specs.declared.Reply.{Reply}
-use Rattle.reply.specs.declared.Reply.TheVariants as reply
 use Rattle.reply.specs.Refusal.{number_of, position_of}
-use Rattle.reply.specs.Respond.{Outcome, answer, refusal, written_if, Answered, reply_to, output_of}
+use Rattle.reply.specs.Respond.{Outcome, answer, refusal, written_if, Answered, reply_to, output_of, Checked, Passed, Reply}
 use Rattle.reply.proofs.Laws.{demanded, written_answer, checked_refused}
 use Rattle.form.specs.Form.{Found, found, refused}
 use Rattle.form.specs.Line.{ranged}
@@ -66,10 +63,10 @@ module _ (before after : OpenRun) (c : Checked) where
   told_exactly d = (λ e. sym (entering_told before after c) ∙ e, λ e. entering_told before after c ∙ e)
 
 -- a text that is refused, and a call
-written_refused : (c : Checked) (text : List ℕ) (e : Refusal) → (written_if c text ≡ refusal e) ↔ (c ≡ Refused e)
+written_refused : (c : Checked) (text : List ℕ) (e : Refusal) → (written_if c text ≡ refusal e) ↔ (c ≡ Err e)
 written_refused c text e = (checked_refused c text, λ p. rw p refl)
 
-once_refused : (c : Checked) (o : Outcome) → (c ≡ Passed → Answered o) → (e : Refusal) → (once_checked c o ≡ refusal e) ↔ (c ≡ Refused e)
+once_refused : (c : Checked) (o : Outcome) → (c ≡ Passed → Answered o) → (e : Refusal) → (once_checked c o ≡ refusal e) ↔ (c ≡ Err e)
 once_refused c o a e = (
   once_told c o (λ p. p) (λ p q. absurd (no_answer (sym q ∙ (a p).1))),
   λ p. rw p refl,
@@ -92,10 +89,10 @@ opened_exactly net memory D =
           (same, rw same (open_opened net D memory p)),
     )
 
-outside : (D : ℕ) → ((1 ≤ D) × (D ≤ 1000) → ⊥) → ranged 1 1000 D 0 ≡ Refused (OutOfRange 0)
+outside : (D : ℕ) → ((1 ≤ D) × (D ≤ 1000) → ⊥) → ranged 1 1000 D 0 ≡ Err (OutOfRange 0)
 outside D h = go (leb 1 D && leb D 1000) refl
   where
-    go : (b : Bool) → (leb 1 D && leb D 1000) ≡ b → cond b Passed (Refused (OutOfRange 0)) ≡ Refused (OutOfRange 0)
+    go : (b : Bool) → (leb 1 D && leb D 1000) ≡ b → cond b Passed (Err (OutOfRange 0)) ≡ Err (OutOfRange 0)
     go true e = absurd (h (ranged_within 1 1000 D 0 (rw e refl)))
     go false e = refl
 
@@ -105,12 +102,12 @@ opening_refused net memory D =
     let r = opened net memory D in
     let says = told_exactly (halted r) r c in
     let few = ranged 1 1000 D 0 in (
-      λ e p. (says (Refused e)).1 (rw p refl),
+      λ e p. (says (Err e)).1 (rw p refl),
       (
         λ e.
             also_refused (net_card.check net 1) few (λ p. let h : 1 ≤ 0 = told_placed net_told net_placed net 1 p in absurd (omega arith))
-            (λ p q. (p, λ h. not_passed (sym (ranged_passes 1 1000 D 0 h.0 h.1) ∙ q))) ((says (Refused (OutOfRange 0))).0 e),
-        λ h. (says (Refused (OutOfRange 0))).1 (rw h.0 (outside D h.1)),
+            (λ p q. (p, λ h. not_passed (sym (ranged_passes 1 1000 D 0 h.0 h.1) ∙ q))) ((says (Err (OutOfRange 0))).0 e),
+        λ h. (says (Err (OutOfRange 0))).1 (rw h.0 (outside D h.1)),
       ),
       λ e p. rw (entering_refuses (halted r) r c p).1 (closed_halted r),
     )
@@ -149,7 +146,7 @@ close_own : (r : OpenRun) (w : ℕ) → close_of r w ≡ refusal OutputTooShort 
 close_own r w e = (wait_own r w (checked_refused (wait_checked r w) _ e)).1 refl
 
 -- a reply that refuses leaves the record and the output
-left_refused : {e : Refusal} (x : Reply) (r : OpenRun) → x ≡ reply.Refused e → left_by x r ≡ r
+left_refused : {e : Refusal} (x : Reply) (r : OpenRun) → x ≡ Err e → left_by x r ≡ r
 left_refused x r p = rw p refl
 
 pub refused_same : RefusedSame
@@ -173,8 +170,8 @@ closed_by_writing r w out = (
 -- ---- refusals
 pub closed_exactly : ClosedExactly
 closed_exactly r = (
-  λ w. Iff.trans (told_exactly r (with_run r (wait_added r.run w)) (wait_checked r w) (Refused ClosedRun)) (wait_closed r w),
-  λ t. Iff.trans (told_exactly r (with_run r (fire_added r.run t)) (fire_checked r t) (Refused ClosedRun)) (fire_closed r t),
+  λ w. Iff.trans (told_exactly r (with_run r (wait_added r.run w)) (wait_checked r w) (Err ClosedRun)) (wait_closed r w),
+  λ t. Iff.trans (told_exactly r (with_run r (fire_added r.run t)) (fire_checked r t) (Err ClosedRun)) (fire_closed r t),
   λ w. Iff.trans (written_refused (wait_checked r w) ((card_of run_card r.net).text (wait_added r.run w)) ClosedRun) (wait_closed r w),
   Iff.trans (once_refused (still r) _ (λ p. calls.state_answered r (still_open r p)) ClosedRun) (still_closed r),
   Iff.trans (once_refused (still r) _ (λ p. calls.timetable_answered r (still_open r p)) ClosedRun) (still_closed r),
@@ -183,7 +180,7 @@ closed_exactly r = (
 pub sum_past : SumPast
 sum_past r w e o =
     let past = wait_refused r w e o in (
-      Iff.trans (told_exactly r (with_run r (wait_added r.run w)) (wait_checked r w) (Refused e)) past,
+      Iff.trans (told_exactly r (with_run r (wait_added r.run w)) (wait_checked r w) (Err e)) past,
       Iff.trans (written_refused (wait_checked r w) ((card_of run_card r.net).text (wait_added r.run w)) e) past,
     )
 
@@ -192,10 +189,10 @@ fire_refused r t o =
     let n = suc r.run.count in
     let says = told_exactly r (with_run r (fire_added r.run t)) (fire_checked r t) in
     let few = (open_fits r o).few in (
-      Iff.trans (says (Refused (OutOfRange n))) (λ e. many few (fire_found r o t (OutOfRange n) e), λ h. fire_many r o t (omega arith)),
-      Iff.trans (says (Refused (NoSuchTransition n)))
+      Iff.trans (says (Err (OutOfRange n))) (λ e. many few (fire_found r o t (OutOfRange n) e), λ h. fire_many r o t (omega arith)),
+      Iff.trans (says (Err (NoSuchTransition n)))
           (λ e. unlisted (fire_found r o t (NoSuchTransition n) e), λ h. fire_unlisted r o t h.0 h.1),
-      λ end a h inside e. Iff.trans (says (Refused e)) (fire_published r o t h inside end a e),
+      λ end a h inside e. Iff.trans (says (Err e)) (fire_published r o t h inside end a e),
     )
   where
     many : r.run.count ≤ 64 → Finding r o t (OutOfRange (suc r.run.count)) → r.run.count ≡ 64
@@ -258,9 +255,9 @@ pub record_as_cards : RecordAsCards
 record_as_cards r o = cards.record_as_cards r o
 
 -- a card behind a step is refused as the step is
-after_refused : (before later : OpenRun) (c : Checked) (e : Refusal) → (card_after (entering c before later) ≡ refusal e) ↔ (c ≡ Refused e)
+after_refused : (before later : OpenRun) (c : Checked) (e : Refusal) → (card_after (entering c before later) ≡ refusal e) ↔ (c ≡ Err e)
 after_refused before later Passed e = (λ p. absurd (no_answer (sym p)), λ p. absurd (not_passed p))
-after_refused before later (Refused q) e = (checked_refused (Refused q) (card_for before), λ p. ap (λ (c : Checked). written_if c (card_for before)) p)
+after_refused before later (Err q) e = (checked_refused (Err q) (card_for before), λ p. ap (λ (c : Checked). written_if c (card_for before)) p)
 
 -- what was read is closed exactly if its replay is not answered
 module _ (s : List ℕ) where
@@ -298,7 +295,7 @@ cards_closed_exactly s = (
 -- the card that an accepted step writes is that of the record behind it, which is read from it again
 after_answer : (before later : OpenRun) (c : Checked) {bytes : List ℕ} → card_after (entering c before later) ≡ answer bytes → (c ≡ Passed) × (card_for later ≡ bytes)
 after_answer before later Passed e = (refl, answer_bytes e)
-after_answer before later (Refused q) e = absurd (no_answer e)
+after_answer before later (Err q) e = absurd (no_answer e)
 
 go_on : (r : OpenRun) → is_open r ≡ true → net_card.clean r.net ≡ r.net → (bytes : List ℕ) → card_for r ≡ bytes
     → run_cards (net_card.text r.net ++ bytes) ≡ found (r.net, r.run) (length (net_card.text r.net ++ bytes))

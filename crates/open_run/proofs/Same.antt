@@ -1,13 +1,12 @@
 -- Nets that agree in all that counts make the same of every step and call: their checks, their replays and their cards are the same.
+use Rattle.std.specs.Prelude.{Err}
 use Prim.Native.Nat.{ℕ, suc, ◌+◌}
 use mathlib.Core.Path.{◌≡◌, refl, ap, ◌∙◌}
 use mathlib.Core.Bool.{Bool, cond, ◌&&◌}
 use lib.ListN.{length}
 use lib.Dec.{eqb}
 use Rattle.reply.specs.declared.Refusal.TheVariants.{ClosedRun}
-use Rattle.reply.specs.declared.Checked.{Checked}
-use Rattle.reply.specs.declared.Checked.TheVariants.{Passed, Refused}
-use Rattle.reply.specs.Respond.{answer, written_if}
+use Rattle.reply.specs.Respond.{answer, written_if, Checked, Passed}
 use Rattle.form.specs.Form.{Form, also}
 use Rattle.form.specs.Line.{ranged, listed}
 use Rattle.net.specs.declared.Net.{Net}
@@ -56,7 +55,7 @@ module _ {a b : Net} (s : SameNet a b) where
         ∙ ap (λ (c : Checked). running && (passes (run_checked b q) && (passes c && (eqb (length q.firings) 64 && blank_behind q)))) (replayed_same q)
 
     pub same_still : still x ≡ still y
-    same_still = ap (λ (t : Bool). cond t Passed (Refused ClosedRun)) same_open
+    same_still = ap (λ (t : Bool). cond t Passed (Err ClosedRun)) same_open
 
     pub same_wait : (w : ℕ) → wait_checked x w ≡ wait_checked y w
     same_wait w = ap (λ (c : Checked). also c (ranged 0 10000000 (q.rest + w) (suc q.count))) same_still
@@ -85,7 +84,7 @@ module _ {a b : Net} (s : SameNet a b) where
     -- the card behind a step
     after_same : (p : Run) (c : Checked) → card_after (entering c x (with_run x p)) ≡ card_after (entering c y (with_run y p))
     after_same p Passed = ap answer (text_same p)
-    after_same p (Refused e) = refl
+    after_same p (Err e) = refl
 
     pub same_wait_card : (w : ℕ) → card_after (wait_of x w) ≡ card_after (wait_of y w)
     same_wait_card w =

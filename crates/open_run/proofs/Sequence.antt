@@ -1,4 +1,6 @@
 -- Steps in a row: an accepted one adds itself to the run, a refused one leaves the record, so that the accepted ones alone are in it, by induction on the steps.
+use Rattle.reply.specs.Respond.{Checked, Passed}
+use Rattle.std.specs.Prelude.{Err}
 use Prim.Native.Nat.{ℕ, ◌+◌}
 use native.Mathlib.Nat.{min-eq_left}
 use mathlib.Core.Path.{◌≡◌, refl, sym, ap, ◌∙◌}
@@ -6,8 +8,6 @@ use mathlib.Core.Bool.{true}
 use mathlib.Core.List.{List, [], ◌∷◌, ◌++◌, append-nil}
 use lib.ListN.{length}
 use lib.Seq.{append_snoc}
-use Rattle.reply.specs.declared.Checked.{Checked}
-use Rattle.reply.specs.declared.Checked.TheVariants.{Passed, Refused}
 use Rattle.net.specs.declared.Net.{Net}
 use Rattle.run.specs.declared.Memory.{Memory}
 use Rattle.run.specs.declared.Firing.{Firing}
@@ -68,7 +68,7 @@ step_kept : (r later : OpenRun) (s : RunStep) (ss : List RunStep) (c : Checked) 
     → Kept r (behind r ss) (accepted_of r ss)
     → let e = entering c r later in Kept r (behind e.run ss) (kept_if e.checked s (accepted_of e.run ss))
 step_kept r later s ss Passed then k = then refl
-step_kept r later s ss (Refused q) then k = k
+step_kept r later s ss (Err q) then k = k
 
 all_kept : (ss : List RunStep) (r : OpenRun) → is_open r ≡ true → Kept r (behind r ss) (accepted_of r ss)
 unfolding behind accepted_of

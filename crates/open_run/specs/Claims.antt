@@ -1,8 +1,6 @@
 -- Document 02, "The open run": the words of its sentences. Records that opening and accepted steps leave, steps in a row, and the run that they make.
-use Rattle.std.specs.Prelude.{ℕ, ◌+◌, ◌≡◌, true, List, [], ◌∷◌, length}
-use Rattle.reply.specs.declared.Checked.{Checked}
-use Rattle.reply.specs.declared.Checked.TheVariants.{Passed, Refused}
-use Rattle.reply.specs.Respond.{Answered}
+use Rattle.std.specs.Prelude.{ℕ, ◌+◌, ◌≡◌, true, List, [], ◌∷◌, length, Err}
+use Rattle.reply.specs.Respond.{Answered, Checked, Passed}
 use Rattle.net.specs.declared.Net.{Net}
 use Rattle.net.specs.Same.{writable_net}
 use Rattle.run.specs.declared.Memory.{Memory}
@@ -46,7 +44,7 @@ behind r (s ∷ ss) = behind (step_of r s).run ss
 -- those of them that are accepted
 abbrev pub kept_if : Checked → RunStep → List RunStep → List RunStep
 kept_if Passed s ss = s ∷ ss
-kept_if (Refused e) s ss = ss
+kept_if (Err e) s ss = ss
 
 unfoldable pub accepted_of : OpenRun → List RunStep → List RunStep
 accepted_of r [] = []

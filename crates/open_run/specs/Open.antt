@@ -1,12 +1,8 @@
 -- Document 02, "The open run": which records are open, and what opening, a wait, a firing, closing and the two calls come to.
-use Rattle.std.specs.Prelude.{ℕ, suc, ◌+◌, Bool, true, false, cond, ◌&&◌, ◌||◌, List, length, get_or, set, replicate, ltb, eqb}
+use Rattle.std.specs.Prelude.{ℕ, suc, ◌+◌, Bool, true, false, cond, ◌&&◌, ◌||◌, List, length, get_or, set, replicate, ltb, eqb, Err, Ok}
 use Rattle.laws.specs.Tests.{all_below}
 use Rattle.reply.specs.declared.Refusal.TheVariants.{ClosedRun}
-use Rattle.reply.specs.declared.Checked.{Checked}
-use Rattle.reply.specs.declared.Checked.TheVariants.{Passed, Refused}
-use Rattle.reply.specs.declared.Reply.{Reply}
-use Rattle.reply.specs.declared.Reply.TheVariants as reply
-use Rattle.reply.specs.Respond.{Outcome, written_if, reply_to}
+use Rattle.reply.specs.Respond.{Outcome, written_if, reply_to, Checked, Passed, Reply}
 use Rattle.form.specs.Form.{also}
 use Rattle.form.specs.Line.{ranged, listed}
 use Rattle.net.specs.declared.Net.{Net}
@@ -27,7 +23,7 @@ use Rattle.open_run.specs.declared.Closing.{Closing}
 -- ---- open and closed records
 abbrev pub passes : Checked → Bool
 passes Passed = true
-passes (Refused e) = false
+passes (Err e) = false
 
 -- the slots past a run's count hold nothing: no step leaves anything there
 abbrev pub blank : Firing → Bool
@@ -44,7 +40,7 @@ is_open r =
 
 -- "a step or such a call on a closed run is refused as 15, place 0"
 abbrev pub still : OpenRun → Checked
-still r = cond (is_open r) Passed (Refused ClosedRun)
+still r = cond (is_open r) Passed (Err ClosedRun)
 
 -- ---- what a step makes of a record
 abbrev pub with_run : OpenRun → Run → OpenRun
@@ -95,7 +91,7 @@ fire_checked r t =
 -- "A refused step leaves the run as before it"
 abbrev pub entering : Checked → OpenRun → OpenRun → Entered
 entering Passed before after = record { checked = Passed; run = after }
-entering (Refused e) before after = record { checked = Refused e; run = before }
+entering (Err e) before after = record { checked = Err e; run = before }
 
 -- "open it on an accepted net with a memory and a denominator": "A denominator outside its range is 2, place 0, and opens nothing"
 abbrev pub open_of : Net → Memory → ℕ → Entered
@@ -113,8 +109,8 @@ close_of r w = written_if (wait_checked r w) ((card_of run_card r.net).text (wai
 
 -- "Closing into too short an output is 9 and leaves the run open"
 abbrev pub left_by : Reply → OpenRun → OpenRun
-left_by (reply.Written n) r = halted r
-left_by (reply.Refused e) r = r
+left_by (Ok n) r = halted r
+left_by (Err e) r = r
 
 abbrev pub closing : OpenRun → ℕ → List ℕ → Closing
 closing r w out = record { reply = reply_to (close_of r w) out; run = left_by (reply_to (close_of r w) out) r }

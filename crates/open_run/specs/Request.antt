@@ -1,11 +1,9 @@
 -- Document 02, "The open run", as statements, each under its sentence; proofs/Request.antt proves each of them under the same name in small letters.
-use Rattle.std.specs.Prelude.{ℕ, suc, ◌+◌, ◌≤◌, ◌<◌, ◌≡◌, true, false, ◌↔◌, List, ◌++◌, length, take}
+use Rattle.std.specs.Prelude.{ℕ, suc, ◌+◌, ◌≤◌, ◌<◌, ◌≡◌, true, false, ◌↔◌, List, ◌++◌, length, take, Err, Ok}
 use Rattle.reply.specs.declared.Refusal.{Refusal}
 use Rattle.reply.specs.declared.Refusal.TheVariants.{OutOfRange, NoSuchTransition, OutputTooShort, ClosedRun}
-use Rattle.reply.specs.declared.Checked.TheVariants.{Passed, Refused}
-use Rattle.reply.specs.declared.Reply.TheVariants as reply
 use Rattle.reply.specs.Refusal.{position_of}
-use Rattle.reply.specs.Respond.{answer, refusal, Answered, output_of}
+use Rattle.reply.specs.Respond.{answer, refusal, Answered, output_of, Passed}
 use Rattle.reply.specs.Demanded.{Demanded}
 use Rattle.form.specs.Form.{found, refused}
 use Rattle.net.specs.declared.Net.{Net}
@@ -38,9 +36,9 @@ OpenedExactly =
 abbrev pub OpeningRefused : Type 0
 OpeningRefused =
     (net : Net) (memory : Memory) (D : ℕ)
-    → ((e : Refusal) → net_card.check net 1 ≡ Refused e → (open_of net memory D).checked ≡ Refused e)
-    × (((open_of net memory D).checked ≡ Refused (OutOfRange 0)) ↔ ((net_card.check net 1 ≡ Passed) × ((1 ≤ D) × (D ≤ 1000) → ⊥)))
-    × ((e : Refusal) → (open_of net memory D).checked ≡ Refused e → is_open (open_of net memory D).run ≡ false)
+    → ((e : Refusal) → net_card.check net 1 ≡ Err e → (open_of net memory D).checked ≡ Err e)
+    × (((open_of net memory D).checked ≡ Err (OutOfRange 0)) ↔ ((net_card.check net 1 ≡ Passed) × ((1 ≤ D) × (D ≤ 1000) → ⊥)))
+    × ((e : Refusal) → (open_of net memory D).checked ≡ Err e → is_open (open_of net memory D).run ≡ false)
 
 -- ---- steps
 -- "short of 9 and 15, a step is accepted exactly if the card with it added is": a wait, a firing, and the rest that closes
@@ -64,24 +62,24 @@ StepsAdd =
 abbrev pub RefusedSame : Type 0
 RefusedSame =
     (r : OpenRun) (e : Refusal)
-    → ((w : ℕ) → (wait_of r w).checked ≡ Refused e → (wait_of r w).run ≡ r)
-    × ((t : ℕ) → (fire_of r t).checked ≡ Refused e → (fire_of r t).run ≡ r)
-    × ((w : ℕ) (out : List ℕ) → (closing r w out).reply ≡ reply.Refused e → ((closing r w out).run ≡ r) × (output_of (close_of r w) out ≡ out))
+    → ((w : ℕ) → (wait_of r w).checked ≡ Err e → (wait_of r w).run ≡ r)
+    × ((t : ℕ) → (fire_of r t).checked ≡ Err e → (fire_of r t).run ≡ r)
+    × ((w : ℕ) (out : List ℕ) → (closing r w out).reply ≡ Err e → ((closing r w out).run ≡ r) × (output_of (close_of r w) out ≡ out))
 
 -- "Closing into too short an output is 9 and leaves the run open", and a written card closes it
 abbrev pub ClosedByWriting : Type 0
 ClosedByWriting =
     (r : OpenRun) (w : ℕ) (out : List ℕ)
-    → ((closing r w out).reply ≡ reply.Refused OutputTooShort → Open r × ((closing r w out).run ≡ r))
-    × ((n : ℕ) → (closing r w out).reply ≡ reply.Written n → ((closing r w out).run ≡ halted r) × (is_open (closing r w out).run ≡ false))
+    → ((closing r w out).reply ≡ Err OutputTooShort → Open r × ((closing r w out).run ≡ r))
+    × ((n : ℕ) → (closing r w out).reply ≡ Ok n → ((closing r w out).run ≡ halted r) × (is_open (closing r w out).run ≡ false))
 
 -- ---- refusals
 -- "a step or such a call on a closed run is refused as 15, place 0, before all else", and nothing else is
 abbrev pub ClosedExactly : Type 0
 ClosedExactly =
     (r : OpenRun)
-    → ((w : ℕ) → ((wait_of r w).checked ≡ Refused ClosedRun) ↔ (is_open r ≡ false))
-    × ((t : ℕ) → ((fire_of r t).checked ≡ Refused ClosedRun) ↔ (is_open r ≡ false))
+    → ((w : ℕ) → ((wait_of r w).checked ≡ Err ClosedRun) ↔ (is_open r ≡ false))
+    × ((t : ℕ) → ((fire_of r t).checked ≡ Err ClosedRun) ↔ (is_open r ≡ false))
     × ((w : ℕ) → (close_of r w ≡ refusal ClosedRun) ↔ (is_open r ≡ false))
     × ((state_of r ≡ refusal ClosedRun) ↔ (is_open r ≡ false))
     × ((timetable_now r ≡ refusal ClosedRun) ↔ (is_open r ≡ false))
@@ -90,25 +88,25 @@ ClosedExactly =
 abbrev pub SumPast : Type 0
 SumPast =
     (r : OpenRun) (w : ℕ) (e : Refusal) → Open r → let past = (e ≡ OutOfRange (suc r.run.count)) × (10000000 < r.run.rest + w) in
-    (((wait_of r w).checked ≡ Refused e) ↔ past) × ((close_of r w ≡ refusal e) ↔ past)
+    (((wait_of r w).checked ≡ Err e) ↔ past) × ((close_of r w ≡ refusal e) ↔ past)
 
 -- ".. or a 65th firing is 2, then a transition not in the net is 4, then come 5, 7 and 6": of these in the published semantics, in any state that the run has
 -- come to
 abbrev pub FireRefused : Type 0
 FireRefused =
     (r : OpenRun) (t : ℕ) → Open r → let n = suc r.run.count in
-    (((fire_of r t).checked ≡ Refused (OutOfRange n)) ↔ (r.run.count ≡ 64))
-    × (((fire_of r t).checked ≡ Refused (NoSuchTransition n)) ↔ ((r.run.count < 64) × (r.net.transitions ≤ t)))
+    (((fire_of r t).checked ≡ Err (OutOfRange n)) ↔ (r.run.count ≡ 64))
+    × (((fire_of r t).checked ≡ Err (NoSuchTransition n)) ↔ ((r.run.count < 64) × (r.net.transitions ≤ t)))
     × ((end : Timed) → Allowed r.net (rule_for r.net r.run.memory) r.run.denominator (firings_of r.run) r.run.rest end
     → r.run.count < 64 → t < r.net.transitions
-    → (e : Refusal) → ((fire_of r t).checked ≡ Refused e) ↔ Because r.net r.run.denominator e n end t)
+    → (e : Refusal) → ((fire_of r t).checked ≡ Err e) ↔ Because r.net r.run.denominator e n end t)
 
 -- "all with the place of the firing being entered"
 abbrev pub StepsPlaced : Type 0
 StepsPlaced =
     (r : OpenRun) (e : Refusal) → Open r
-    → ((w : ℕ) → (wait_of r w).checked ≡ Refused e → position_of e ≡ suc r.run.count)
-    × ((t : ℕ) → (fire_of r t).checked ≡ Refused e → position_of e ≡ suc r.run.count)
+    → ((w : ℕ) → (wait_of r w).checked ≡ Err e → position_of e ≡ suc r.run.count)
+    × ((t : ℕ) → (fire_of r t).checked ≡ Err e → position_of e ≡ suc r.run.count)
     × ((w : ℕ) → close_of r w ≡ refusal e → position_of e ≡ suc r.run.count)
 
 -- "A record that opening and accepted steps can't have left counts as closed", and what they have left is open

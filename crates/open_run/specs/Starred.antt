@@ -1,6 +1,6 @@
 -- Cases of document 02, "The open run": one list, and one check that is computed over all of it. What is entered stands as steps; a step's check stands as an
 -- outcome, without bytes where it is accepted.
-use Rattle.std.specs.Prelude.{ℕ, ◌≡◌, refl, Bool, true, false, List, [], ◌∷◌, ◌++◌, replicate, set}
+use Rattle.std.specs.Prelude.{ℕ, ◌≡◌, refl, Bool, true, false, List, [], ◌∷◌, ◌++◌, replicate, set, None}
 use Rattle.laws.specs.Tests.{all_below}
 use Rattle.laws.specs.Arrays.{filled}
 use Rattle.laws.specs.Slots.{first_of}
@@ -11,7 +11,6 @@ use Rattle.text.specs.Key.{bytes}
 use Rattle.text.specs.Decimal.{digits, width, decimal}
 use Rattle.form.specs.Form.{texts, lines_of, checks}
 use Rattle.form.specs.Line.{items_text, all_ranged}
-use Rattle.net.specs.declared.Latest.TheVariants.{Unbounded}
 use Rattle.net.specs.declared.Net.{Net}
 use Rattle.net.specs.Net.{take_of, give_of, rows_of}
 use Rattle.run.specs.declared.Memory.TheVariants.{Intermediate, Atomic}
@@ -34,7 +33,7 @@ entered_a : List RunStep → OpenRun
 entered_a ss = behind (opened net_a Atomic 2) ss
 
 net_f : Net
-net_f = net_for 7 (1 ∷ []) (row_for 0 Unbounded (1 ∷ []) (1 ∷ []) ∷ [])
+net_f = net_for 7 (1 ∷ []) (row_for 0 None (1 ∷ []) (1 ∷ []) ∷ [])
 
 full : OpenRun
 full = behind (opened net_f Intermediate 1) (replicate 64 (fires 0))

@@ -2,7 +2,7 @@
 #![tactic(auto)]
 
 use net::Net;
-use reply::{Checked, Reply};
+use reply::Refusal;
 use run::Run;
 
 // A run that is being entered: its net, the run of the steps so far as if it closed here (its rest is the sum of the waits since the last firing), and whether
@@ -17,13 +17,13 @@ pub struct OpenRun {
 // What opening a run or a step of it says, and the record behind it.
 #[derive(Clone, Copy)]
 pub struct Entered {
-    pub checked: Checked,
+    pub checked: Result<(), Refusal>,
     pub run: OpenRun,
 }
 
 // What closing a run tells its caller, and the record behind it.
 #[derive(Clone, Copy)]
 pub struct Closing {
-    pub reply: Reply,
+    pub reply: Result<usize, Refusal>,
     pub run: OpenRun,
 }

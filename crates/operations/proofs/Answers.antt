@@ -1,4 +1,5 @@
 -- When an operation has an answer: each step that can refuse passed. And what the card of a run in whole ticks says.
+use Rattle.std.specs.Prelude.{Err}
 use Prim.Native.Nat.{ℕ, ◌≤◌, ◌<◌}
 use native.Mathlib.Nat.{min-le_left}
 use native.Mathlib.Omega.{arith}
@@ -8,10 +9,7 @@ use mathlib.Core.List.{List}
 use lib.ListN.{length}
 use Rattle.reply.specs.declared.Refusal.{Refusal}
 use Rattle.reply.specs.declared.Refusal.TheVariants.{Untimable}
-use Rattle.reply.specs.declared.Checked.{Checked}
-use Rattle.reply.specs.declared.Checked.TheVariants as checked
-use Rattle.reply.specs.declared.Reply.TheVariants.{Refused}
-use Rattle.reply.specs.Respond.{Outcome, answer, refusal, Answered, reply_to}
+use Rattle.reply.specs.Respond.{Outcome, answer, refusal, Answered, reply_to, Checked, Passed}
 use Rattle.reply.proofs.Laws.{refused_exactly}
 use Rattle.form.specs.Form.{found}
 use Rattle.net.specs.declared.Net.{Net}
@@ -40,40 +38,40 @@ pub no_answer : {r : Refusal} {bytes : List ℕ} → refusal r ≡ answer bytes 
 no_answer e = let z : ◌≡◌ {A = ℕ} 0 1 = cc in omega arith
 
 -- the lower bounds of a net that passes its check
-pub earliest_within : (net : Net) → net_card.check net 1 ≡ checked.Passed → (t : ℕ) → t < (arcs_of net).transitions → (transition_at net t).earliest ≤ 1000
+pub earliest_within : (net : Net) → net_card.check net 1 ≡ Passed → (t : ℕ) → t < (arcs_of net).transitions → (transition_at net t).earliest ≤ 1000
 earliest_within net q t l = net_earliest net q t (omega (arith, min-le_left net.transitions 32))
 
 -- ---- the end of a replay
-end_answered : (net : Net) (c : Checked) (st : State) → Answered (ended net c st) ↔ (c ≡ checked.Passed)
+end_answered : (net : Net) (c : Checked) (st : State) → Answered (ended net c st) ↔ (c ≡ Passed)
 end_answered net c st = (go c, λ e. (end_text net (view st), rw e refl))
   where
-    go : (c : Checked) → Answered (ended net c st) → c ≡ checked.Passed
-    go checked.Passed a = refl
-    go (checked.Refused r) a = absurd (no_answer a.1)
+    go : (c : Checked) → Answered (ended net c st) → c ≡ Passed
+    go Passed a = refl
+    go (Err r) a = absurd (no_answer a.1)
 
 -- ---- behind a check
 -- two answers that are one have the same bytes
 pub answer_bytes : {a b : List ℕ} → answer a ≡ answer b → a ≡ b
 answer_bytes e = cc
 
-once_refusal : (c : Checked) (bytes : List ℕ) (e : Refusal) → (once_checked c (answer bytes) ≡ refusal e) ↔ (c ≡ checked.Refused e)
-once_refusal checked.Passed bytes e = (λ q. absurd (no_answer (sym q)), λ q. let z : ◌≡◌ {A = ℕ} 0 1 = cc in absurd (omega arith))
-once_refusal (checked.Refused q) bytes e = (λ p. cc, λ p. cc)
+once_refusal : (c : Checked) (bytes : List ℕ) (e : Refusal) → (once_checked c (answer bytes) ≡ refusal e) ↔ (c ≡ Err e)
+once_refusal Passed bytes e = (λ q. absurd (no_answer (sym q)), λ q. let z : ◌≡◌ {A = ℕ} 0 1 = cc in absurd (omega arith))
+once_refusal (Err q) bytes e = (λ p. cc, λ p. cc)
 
-pub once_answer : (c : Checked) (o : Outcome) (bytes : List ℕ) → (once_checked c o ≡ answer bytes) ↔ ((c ≡ checked.Passed) × (o ≡ answer bytes))
+pub once_answer : (c : Checked) (o : Outcome) (bytes : List ℕ) → (once_checked c o ≡ answer bytes) ↔ ((c ≡ Passed) × (o ≡ answer bytes))
 once_answer c o bytes = (go c, λ p. rw p.0 p.1)
   where
-    go : (c : Checked) → once_checked c o ≡ answer bytes → (c ≡ checked.Passed) × (o ≡ answer bytes)
-    go checked.Passed e = (refl, e)
-    go (checked.Refused r) e = absurd (no_answer e)
+    go : (c : Checked) → once_checked c o ≡ answer bytes → (c ≡ Passed) × (o ≡ answer bytes)
+    go Passed e = (refl, e)
+    go (Err r) e = absurd (no_answer e)
 
 -- work that counts once a check is passed: what refuses is the check, or the work behind it
-pub once_told : {P : Type 0} {e : Refusal} (c : Checked) (o : Outcome) → (c ≡ checked.Refused e → P) → (c ≡ checked.Passed → o ≡ refusal e → P)
+pub once_told : {P : Type 0} {e : Refusal} (c : Checked) (o : Outcome) → (c ≡ Err e → P) → (c ≡ Passed → o ≡ refusal e → P)
     → once_checked c o ≡ refusal e → P
-once_told checked.Passed o first then q = then refl q
-once_told (checked.Refused r) o first then q = first cc
+once_told Passed o first then q = then refl q
+once_told (Err r) o first then q = first cc
 
-pub once_answered : (c : Checked) (o : Outcome) → Answered (once_checked c o) ↔ ((c ≡ checked.Passed) × Answered o)
+pub once_answered : (c : Checked) (o : Outcome) → Answered (once_checked c o) ↔ ((c ≡ Passed) × Answered o)
 once_answered c o = (
   λ a. let h = (once_answer c o a.0).0 a.1 in (h.0, (a.0, h.1)),
   λ p. (p.1.0, (once_answer c o p.1.0).1 (p.0, p.1.1)),
@@ -85,16 +83,16 @@ module _ (net : Net) (r : Run) where
   abbrev pub played : Played
   played = replay net (rule_of (arcs_of net) r.memory) r
 
-  pub work_refused : (what : OnRun) (e : Refusal) → (work_of what net r ≡ refusal e) ↔ (played.checked ≡ checked.Refused e)
+  pub work_refused : (what : OnRun) (e : Refusal) → (work_of what net r ≡ refusal e) ↔ (played.checked ≡ Err e)
   work_refused replaying e = go played.checked
     where
-      go : (c : Checked) → (ended net c played.state ≡ refusal e) ↔ (c ≡ checked.Refused e)
-      go checked.Passed = (λ q. absurd (no_answer (sym q)), λ q. let z : ◌≡◌ {A = ℕ} 0 1 = cc in absurd (omega arith))
-      go (checked.Refused q) = (λ p. cc, λ p. cc)
+      go : (c : Checked) → (ended net c played.state ≡ refusal e) ↔ (c ≡ Err e)
+      go Passed = (λ q. absurd (no_answer (sym q)), λ q. let z : ◌≡◌ {A = ℕ} 0 1 = cc in absurd (omega arith))
+      go (Err q) = (λ p. cc, λ p. cc)
   work_refused rounding e = once_refusal played.checked _ e
   work_refused processing e = once_refusal played.checked _ e
 
-  pub work_answered : (what : OnRun) → Answered (work_of what net r) ↔ (played.checked ≡ checked.Passed)
+  pub work_answered : (what : OnRun) → Answered (work_of what net r) ↔ (played.checked ≡ Passed)
   work_answered replaying = end_answered net played.checked played.state
   work_answered rounding = (λ a. ((once_answered played.checked _).0 a).0, λ p. (once_answered played.checked _).1 (p, (_, refl)))
   work_answered processing = (λ a. ((once_answered played.checked _).0 a).0, λ p. (once_answered played.checked _).1 (p, (_, refl)))
@@ -114,15 +112,15 @@ module _ (net : Net) (o : Order) where
   schedule_refusal (unschedulable q) r = (λ e. cc, λ e. ap (schedule_text net o) e)
 
   -- 8 is told whatever the output, exactly when the schedule finds it
-  pub untimable_told : (s : Scheduled) (k : ℕ) (out : List ℕ) → (reply_to (schedule_text net o s) out ≡ Refused (Untimable k)) ↔ (s ≡ unschedulable (Untimable k))
+  pub untimable_told : (s : Scheduled) (k : ℕ) (out : List ℕ) → (reply_to (schedule_text net o s) out ≡ Err (Untimable k)) ↔ (s ≡ unschedulable (Untimable k))
   untimable_told s k out =
       let told = refused_exactly (schedule_text net o s) (Untimable k) (λ e. let z : ◌≡◌ {A = ℕ} 0 1 = cc in omega arith) out in
       let why = schedule_refusal s (Untimable k) in
       (λ e. why.0 (told.0 e), λ e. told.1 (why.1 e))
 
 -- ---- the card of a run in whole ticks that is accepted
-module _ (net : Net) (restarts : Restart) (r : Run) (ticks : r.denominator ≡ 1) (p : run_checked net r ≡ checked.Passed)
-    (a : (replay net restarts r).checked ≡ checked.Passed) (clean : (card_of run_card net).clean r ≡ r) where
+module _ (net : Net) (restarts : Restart) (r : Run) (ticks : r.denominator ≡ 1) (p : run_checked net r ≡ Passed)
+    (a : (replay net restarts r).checked ≡ Passed) (clean : (card_of run_card net).clean r ≡ r) where
   pub whole_tick_run : (bytes : List ℕ) → (card_of run_card net).text r ≡ bytes → WholeTickRun net restarts bytes r
   whole_tick_run bytes e =
       record {

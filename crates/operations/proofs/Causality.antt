@@ -1,10 +1,10 @@
 -- An accepted run's order is one that the tokens allow, so that its process is no longer than the longest.
+use Rattle.reply.specs.Respond.{Passed}
 use Prim.Native.Nat.{◌≤◌}
 use native.Mathlib.Nat.{min-le_left, min-le_right}
 use native.Mathlib.Omega.{arith}
 use mathlib.Core.Path.{◌≡◌}
 use lib.ListN.{length}
-use Rattle.reply.specs.declared.Checked.TheVariants.{Passed}
 use Rattle.form.proofs.Found.{also_first}
 use Rattle.net.specs.declared.Net.{Net}
 use Rattle.net.specs.Net.{net_card}

@@ -1,5 +1,6 @@
 -- The demands, proved as specs/Demands.antt states them, under the same names. Each follows from a law of its subject in the crates below, and from what an
 -- operation does around it: check or read, reply, write.
+use Rattle.std.specs.Prelude.{Err}
 use Prim.Native.Nat.{ℕ, ◌≤◌}
 use native.Mathlib.Nat.{zero-add}
 use native.Mathlib.Omega.{arith}
@@ -10,10 +11,7 @@ use lib.ListN.{length, take, drop}
 use lib.Seq.{take-append_seam}
 use Rattle.reply.specs.declared.Refusal.{Refusal}
 use Rattle.reply.specs.declared.Refusal.TheVariants.{OutputTooShort}
-use Rattle.reply.specs.declared.Checked.{Checked}
-use Rattle.reply.specs.declared.Checked.TheVariants as checked
-use Rattle.reply.specs.declared.Checked.TheVariants.{Passed}
-use Rattle.reply.specs.Respond.{answer, refusal, written_if, Answered}
+use Rattle.reply.specs.Respond.{answer, refusal, written_if, Answered, Checked, Passed}
 use Rattle.reply.proofs.Laws.{demanded, written_answer, checked_refused}
 use Rattle.form.specs.Form.{Found, found, refused, found_if}
 use Rattle.form.proofs.Found.{also_first, also_second}
@@ -76,7 +74,7 @@ run_as_cards what net r = rw (run_cards_told net r) (go (run_checked net r) refl
     go Passed p =
         let (places, transitions, count) = run_counts net r p in
         sym (work_same (net_same net places transitions) (run_same net.sheet net.transitions r count) what)
-    go (checked.Refused e) p = refl
+    go (Err e) p = refl
 
 pub order_as_cards : OrderAsCards
 order_as_cards net o = rw (order_cards_told net o) (go (order_checked net o) refl)
@@ -87,7 +85,7 @@ order_as_cards net o = rw (order_cards_told net o) (go (order_checked net o) ref
     go Passed p =
         let (places, transitions, count) = order_counts net o p in
         sym (timetable_same (net_same net places transitions) (order_same net.sheet net.transitions o count))
-    go (checked.Refused e) p = refl
+    go (Err e) p = refl
 
 -- a check that refuses refuses the text and the reading alike
 refused_alike : {A : Type 0} (c : Checked) (text : List ℕ) (a : A) (next : ℕ) (e : Refusal) → (written_if c text ≡ refusal e) ↔ (found_if c a next ≡ refused e)
@@ -95,7 +93,7 @@ refused_alike Passed text a next e = (
   λ p. absurd (no_answer (sym p)),
   λ p. let z : ◌≡◌ {A = ℕ} 0 1 = cc in absurd (omega arith),
 )
-refused_alike (checked.Refused q) text a next e = (λ p. cc, λ p. cc)
+refused_alike (Err q) text a next e = (λ p. cc, λ p. cc)
 
 pub values_refused_as_cards : ValuesRefusedAsCards
 values_refused_as_cards = (

@@ -1,5 +1,6 @@
 -- Every answer of an operation is short: a replay's end is, cards of runs that pass their check are, and so is a process. So what is told of an operation, to
 -- whatever output, is small.
+use Rattle.std.specs.Prelude.{Err}
 use Prim.Native.Nat.{ℕ, zero, suc, ◌*◌, ◌≤◌}
 use native.Mathlib.Omega.{arith}
 use mathlib.Core.Path.{◌≡◌, refl}
@@ -7,9 +8,7 @@ use mathlib.Core.Bool.{Bool, true, false, cond}
 use mathlib.Core.List.{List, ◌++◌}
 use lib.ListN.{length, length-append}
 use Rattle.laws.specs.Slots.{first_of, length_first}
-use Rattle.reply.specs.declared.Checked.{Checked}
-use Rattle.reply.specs.declared.Checked.TheVariants as checked
-use Rattle.reply.specs.Respond.{Outcome, answer}
+use Rattle.reply.specs.Respond.{Outcome, answer, Checked, Passed}
 use Rattle.reply.proofs.Bounds.{Bounds}
 use Rattle.text.specs.Key.{bytes}
 use Rattle.text.specs.Decimal.{field}
@@ -77,10 +76,10 @@ module _ (net : Net) (S : Timed) where
       )
 
 ended_short : (net : Net) (st : State) (c : Checked) (text : List ℕ) → ended net c st ≡ answer text → length text ≤ 1280
-ended_short net st checked.Passed text e =
+ended_short net st Passed text e =
     let same : end_text net (view st) ≡ text = cc in
     rw (← same) (end_fits net (view st))
-ended_short net st (checked.Refused r) text e = let z : ◌≡◌ {A = ℕ} 0 1 = cc in absurd (omega arith)
+ended_short net st (Err r) text e = let z : ◌≡◌ {A = ℕ} 0 1 = cc in absurd (omega arith)
 
 pub end_short : (net : Net) (r : Run) (text : List ℕ) → replay_of net r ≡ answer text → length text ≤ 1280
 end_short net r text =
@@ -103,7 +102,7 @@ round_short s bytes =
     let (r, whole, same) = round_whole v.0 rule v.1 (run_cards_passed s e) bytes q in
     card_short v.0 rule bytes r whole)
 
-pub timetable_fits : (net : Net) (o : Order) → order_checked net o ≡ checked.Passed → (bytes : List ℕ) → timetable_of net o ≡ answer bytes → length bytes ≤ 2048
+pub timetable_fits : (net : Net) (o : Order) → order_checked net o ≡ Passed → (bytes : List ℕ) → timetable_of net o ≡ answer bytes → length bytes ≤ 2048
 timetable_fits net o p bytes q =
     let rule = rule_of (arcs_of net) o.memory in
     let (r, whole, early) = timetable_earliest net rule o p bytes q in

@@ -1,4 +1,5 @@
 -- Every refusal of an operation has a small place: what was read has at most 147 lines and 64 firings.
+use Rattle.std.specs.Prelude.{Err}
 use Prim.Native.Nat.{ℕ, ◌+◌, ◌≤◌, ◌<◌}
 use native.Mathlib.Omega.{arith}
 use mathlib.Core.Path.{◌≡◌, refl, ap}
@@ -6,10 +7,8 @@ use mathlib.Core.Logic.{inl, inr}
 use mathlib.Core.List.{List}
 use lib.ListN.{length}
 use Rattle.reply.specs.declared.Refusal.{Refusal}
-use Rattle.reply.specs.declared.Checked.TheVariants.{Passed}
-use Rattle.reply.specs.declared.Checked.TheVariants as checked
 use Rattle.reply.specs.Refusal.{number_of, position_of}
-use Rattle.reply.specs.Respond.{Outcome, refusal}
+use Rattle.reply.specs.Respond.{Outcome, refusal, Passed}
 use Rattle.form.specs.Form.{Found, found, refused}
 use Rattle.form.specs.Inverse.{Among}
 use Rattle.net.specs.declared.Net.{Net}
@@ -48,7 +47,7 @@ because_number net D r n S t (inl b) = omega (arith, ap number_of b.0)
 because_number net D r n S t (inr (inl b)) = omega (arith, ap number_of b.0)
 because_number net D r n S t (inr (inr b)) = omega (arith, ap number_of b.0)
 
-pub replay_number : (net : Net) (restarts : Restart) (run : Run) (r : Refusal) → (replay net restarts run).checked ≡ checked.Refused r → number_of r ≤ 7
+pub replay_number : (net : Net) (restarts : Restart) (run : Run) (r : Refusal) → (replay net restarts run).checked ≡ Err r → number_of r ≤ 7
 replay_number net restarts run r e =
     let f = refused_first net restarts run r e in
     because_number net run.denominator r (0 + length f.front + 1) f.there f.refused.fire f.because

@@ -1,13 +1,11 @@
 -- The change requests, proved as specs/Requests.antt states them, under the same names.
+use Rattle.std.specs.Prelude.{Err}
 use Prim.Native.Nat.{ℕ, ◌≤◌}
 use native.Mathlib.Omega.{arith}
 use mathlib.Core.Path.{◌≡◌, refl}
 use mathlib.Core.Logic.{◌↔◌}
 use Rattle.reply.specs.declared.Refusal.TheVariants.{AnotherSheet}
-use Rattle.reply.specs.declared.Checked.{Checked}
-use Rattle.reply.specs.declared.Checked.TheVariants.{Passed}
-use Rattle.reply.specs.declared.Checked.TheVariants as checked
-use Rattle.reply.specs.Respond.{Outcome, refusal}
+use Rattle.reply.specs.Respond.{Outcome, refusal, Checked, Passed}
 use Rattle.form.specs.Form.{also}
 use Rattle.form.proofs.Found.{also_refused}
 use Rattle.form.proofs.NumberLines.{in_range}
@@ -133,7 +131,7 @@ order_elsewhere net o e =
 
 -- what a check refuses so, and what is refused so behind it
 elsewhere : (net : Net) (n : ℕ) (c : Checked) (work : Outcome)
-    → (net.transitions ≤ 32 → c ≡ checked.Refused (AnotherSheet 1) → (n ≤ 9999) × (n ≡ net.sheet → ⊥)) → (work ≡ refusal (AnotherSheet 1) → ⊥)
+    → (net.transitions ≤ 32 → c ≡ Err (AnotherSheet 1) → (n ≤ 9999) × (n ≡ net.sheet → ⊥)) → (work ≡ refusal (AnotherSheet 1) → ⊥)
     → once_checked (also (net_card.check net 1) c) work ≡ refusal (AnotherSheet 1) → Elsewhere net n
 elsewhere net n c work judged later e =
     once_told (also (net_card.check net 1) c) work

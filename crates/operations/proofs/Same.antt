@@ -1,11 +1,10 @@
 -- Slots past the counts are no part of a value: values that agree in all that counts come to the same.
+use Rattle.std.specs.Prelude.{Err}
 use Prim.Native.Nat.{ℕ, zero, suc, min}
 use mathlib.Core.Path.{◌≡◌, refl, ap, ◌∙◌}
 use mathlib.Core.List.{List, ◌++◌}
 use Rattle.laws.specs.Slots.{first_of}
-use Rattle.reply.specs.declared.Checked.{Checked}
-use Rattle.reply.specs.declared.Checked.TheVariants.{Passed, Refused}
-use Rattle.reply.specs.Respond.{answer}
+use Rattle.reply.specs.Respond.{answer, Checked, Passed}
 use Rattle.text.specs.Key.{bytes}
 use Rattle.form.specs.Form.{also, Form}
 use Rattle.form.specs.Line.{items_text}
@@ -52,7 +51,7 @@ module _ {a b : Net} (s : SameNet a b) where
 
   ended_same : (c : Checked) (st : State) → ended a c st ≡ ended b c st
   ended_same Passed st = ap answer (end_same (view st))
-  ended_same (Refused r) st = refl
+  ended_same (Err r) st = refl
 
   module _ {r q : Run} (t : SameRun r q) where
     -- the replay of the one is that of the other
@@ -77,7 +76,7 @@ module _ {a b : Net} (s : SameNet a b) where
         → once_checked c (answer (process_text a (order_of (firings_of r)))) ≡ once_checked c (answer (process_text b (order_of (firings_of q))))
     processes_same Passed e =
         ap answer (same_process s (order_of (firings_of r)) (accepted_tokens a r e) ∙ ap (λ fs. process_text b (order_of fs)) (same_firings t))
-    processes_same (Refused e) p = refl
+    processes_same (Err e) p = refl
 
     pub work_same : (what : OnRun) → work_of what a r ≡ work_of what b q
     work_same replaying = ended_same one.checked one.state ∙ ap (λ (p : Played). ended b p.checked p.state) replays_same

@@ -1,6 +1,6 @@
 -- What demand 3 asks of a timetable and of a rounded run.
+use Rattle.reply.specs.Respond.{Passed}
 use Rattle.std.specs.Prelude.{ℕ, ◌+◌, ◌*◌, ◌/◌, ◌≤◌, ◌<◌, ◌≡◌, List, length, get_or, take}
-use Rattle.reply.specs.declared.Checked.TheVariants.{Passed}
 use Rattle.form.specs.Form.{found}
 use Rattle.net.specs.declared.Net.{Net}
 use Rattle.run.specs.declared.Run.{Run}

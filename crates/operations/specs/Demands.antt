@@ -1,11 +1,9 @@
 -- The three demands as statements, each under its sentence and in the customer's order (docs/DEMANDS.md); proofs/Demands.antt proves each of them under the
 -- same name in small letters. The contract of an operation is `Responded` with its outcome, for the reply and the output at exit.
-use Rattle.std.specs.Prelude.{ℕ, ◌≤◌, ◌<◌, ◌≡◌, ◌↔◌, List, ◌++◌, length, get_or, take}
+use Rattle.std.specs.Prelude.{ℕ, ◌≤◌, ◌<◌, ◌≡◌, ◌↔◌, List, ◌++◌, length, get_or, take, Err}
 use Rattle.reply.specs.declared.Refusal.{Refusal}
 use Rattle.reply.specs.declared.Refusal.TheVariants.{Untimable}
-use Rattle.reply.specs.declared.Checked.TheVariants as checked
-use Rattle.reply.specs.declared.Reply.TheVariants.{Refused}
-use Rattle.reply.specs.Respond.{answer, refusal, Answered, reply_to}
+use Rattle.reply.specs.Respond.{answer, refusal, Answered, reply_to, Passed}
 use Rattle.reply.specs.Demanded.{Demanded}
 use Rattle.form.specs.Form.{found, refused}
 use Rattle.net.specs.declared.Net.{Net}
@@ -77,7 +75,7 @@ abbrev pub Allows : Net → Run → Type 0
 Allows net r = (end : Timed) × Allowed net (rule_for net r.memory) r.denominator (firings_of r) r.rest end
 
 abbrev pub AcceptedExactly : Type 0
-AcceptedExactly = (what : OnRun) (net : Net) (r : Run) → Answered (values_of what net r) ↔ ((run_checked net r ≡ checked.Passed) × Allows net r)
+AcceptedExactly = (what : OnRun) (net : Net) (r : Run) → Answered (values_of what net r) ↔ ((run_checked net r ≡ Passed) × Allows net r)
 
 abbrev pub AcceptedCardsExactly : Type 0
 AcceptedCardsExactly =
@@ -89,7 +87,7 @@ RefusedAt net r S e = FirstRefused net (rule_for net r.memory) r.denominator (fi
 
 abbrev pub RefusedAtExactly : Type 0
 RefusedAtExactly =
-    (what : OnRun) (net : Net) (r : Run) (S : Timed) → run_checked net r ≡ checked.Passed → Initial net S → (e : Refusal)
+    (what : OnRun) (net : Net) (r : Run) (S : Timed) → run_checked net r ≡ Passed → Initial net S → (e : Refusal)
     → (values_of what net r ≡ refusal e) ↔ RefusedAt net r S e
 
 abbrev pub RefusedAtCardsExactly : Type 0
@@ -101,7 +99,7 @@ RefusedAtCardsExactly =
 abbrev pub PrintedEnd : Type 0
 PrintedEnd =
     (net : Net) (r : Run) (end : Timed) → Allowed net (rule_for net r.memory) r.denominator (firings_of r) r.rest end
-    → (run_checked net r ≡ checked.Passed → values_of replaying net r ≡ answer (end_text net end))
+    → (run_checked net r ≡ Passed → values_of replaying net r ≡ answer (end_text net end))
     × ((s : List ℕ) (next : ℕ) → run_cards s ≡ found (net, r) next → cards_of replaying s ≡ answer (end_text net end))
 
 -- "Reading a card and writing it again gives back its bytes"
@@ -127,9 +125,9 @@ WrittenRead =
 
 abbrev pub InputsWrittenRead : Type 0
 InputsWrittenRead =
-    ((net : Net) (r : Run) → run_checked net r ≡ checked.Passed
+    ((net : Net) (r : Run) → run_checked net r ≡ Passed
     → (n : Net) × (q : Run) × (run_cards (input_of run_card net r) ≡ found (n, q) (length (input_of run_card net r))) × SameNet n net × SameRun q r)
-    × ((net : Net) (o : Order) → order_checked net o ≡ checked.Passed
+    × ((net : Net) (o : Order) → order_checked net o ≡ Passed
     → (n : Net) × (q : Order) × (order_cards (input_of order_card net o) ≡ found (n, q) (length (input_of order_card net o))) × SameNet n net × SameOrder q o)
 
 -- ======== demand 3, for any restart rule; each memory word has one (`rule_for`)
@@ -152,15 +150,15 @@ OriginsAreRestarts =
 -- the operations under the memory word named, over values and over cards
 abbrev pub TimetableByMemory : Type 0
 TimetableByMemory =
-    ((net : Net) (o : Order) → order_checked net o ≡ checked.Passed → timetable_values net o ≡ timetable_by net (rule_for net o.memory) o)
+    ((net : Net) (o : Order) → order_checked net o ≡ Passed → timetable_values net o ≡ timetable_by net (rule_for net o.memory) o)
     × ((s : List ℕ) (net : Net) (o : Order) (next : ℕ) → order_cards s ≡ found (net, o) next
-    → (order_checked net o ≡ checked.Passed) × (timetable_cards s ≡ timetable_by net (rule_for net o.memory) o))
+    → (order_checked net o ≡ Passed) × (timetable_cards s ≡ timetable_by net (rule_for net o.memory) o))
 
 abbrev pub RoundByMemory : Type 0
 RoundByMemory =
-    ((net : Net) (r : Run) → run_checked net r ≡ checked.Passed → values_of rounding net r ≡ round_by net (rule_for net r.memory) r)
+    ((net : Net) (r : Run) → run_checked net r ≡ Passed → values_of rounding net r ≡ round_by net (rule_for net r.memory) r)
     × ((s : List ℕ) (net : Net) (r : Run) (next : ℕ) → run_cards s ≡ found (net, r) next
-    → (run_checked net r ≡ checked.Passed) × (cards_of rounding s ≡ round_by net (rule_for net r.memory) r))
+    → (run_checked net r ≡ Passed) × (cards_of rounding s ≡ round_by net (rule_for net r.memory) r))
 
 module _ (net : Net) (restarts : Restart) (o : Order) where
   -- "a timetable is returned, output allowing, exactly when a timing exists at some denominator"
@@ -170,33 +168,33 @@ module _ (net : Net) (restarts : Restart) (o : Order) where
   -- "For an order, 5 and 6 through all firings, then 8": whatever the output
   abbrev pub TokensFirst : Type 0
   TokensFirst =
-      (r : Refusal) → tokens net (fires_of o) (start_marking net) 0 ≡ checked.Refused r → (out : List ℕ) → reply_to (timetable_by net restarts o) out ≡ Refused r
+      (r : Refusal) → tokens net (fires_of o) (start_marking net) 0 ≡ Err r → (out : List ℕ) → reply_to (timetable_by net restarts o) out ≡ Err r
 
   -- "whatever the output, the order is refused as untimable .. at the first firing up to which there is none"
   abbrev pub UntimableExactlyAt : Type 0
   UntimableExactlyAt =
-      (k : ℕ) (out : List ℕ) → (reply_to (timetable_by net restarts o) out ≡ Refused (Untimable k))
-      ↔ ((tokens net (fires_of o) (start_marking net) 0 ≡ checked.Passed) × FirstUntimable net restarts (fires_of o) k)
+      (k : ℕ) (out : List ℕ) → (reply_to (timetable_by net restarts o) out ≡ Err (Untimable k))
+      ↔ ((tokens net (fires_of o) (start_marking net) 0 ≡ Passed) × FirstUntimable net restarts (fires_of o) k)
 
   -- ".. exactly when none does", of those orders that the tokens allow
   abbrev pub UntimableWhenNone : Type 0
   UntimableWhenNone =
-      tokens net (fires_of o) (start_marking net) 0 ≡ checked.Passed → (out : List ℕ)
-      → ((k : ℕ) × (reply_to (timetable_by net restarts o) out ≡ Refused (Untimable k))) ↔ ((D : ℕ) → 0 < D → Timable net restarts D (fires_of o) → ⊥)
+      tokens net (fires_of o) (start_marking net) 0 ≡ Passed → (out : List ℕ)
+      → ((k : ℕ) × (reply_to (timetable_by net restarts o) out ≡ Err (Untimable k))) ↔ ((D : ℕ) → 0 < D → Timable net restarts D (fires_of o) → ⊥)
 
   -- "The timetable is a whole-tick run of that order, and in every timing at any denominator each firing is at the timetable's instant or later"
   abbrev pub TimetableEarliest : Type 0
   TimetableEarliest =
-      order_checked net o ≡ checked.Passed → (bytes : List ℕ) → timetable_by net restarts o ≡ answer bytes
+      order_checked net o ≡ Passed → (bytes : List ℕ) → timetable_by net restarts o ≡ answer bytes
       → (r : Run) × WholeTickRun net restarts bytes r × EarliestRun net restarts o r
 
 module _ (net : Net) (restarts : Restart) (r : Run) where
   -- "every run accepted under 2, whatever its denominator, comes back"
   abbrev pub RoundExactly : Type 0
-  RoundExactly = Answered (round_by net restarts r) ↔ ((replay net restarts r).checked ≡ checked.Passed)
+  RoundExactly = Answered (round_by net restarts r) ↔ ((replay net restarts r).checked ≡ Passed)
 
   -- "with each firing and the end at its instant rounded down, still a run, with the same order and the same marking after every firing"
   abbrev pub RoundWhole : Type 0
   RoundWhole =
-      run_checked net r ≡ checked.Passed → (bytes : List ℕ) → round_by net restarts r ≡ answer bytes
+      run_checked net r ≡ Passed → (bytes : List ℕ) → round_by net restarts r ≡ answer bytes
       → (q : Run) × WholeTickRun net restarts bytes q × RoundedDown net restarts r q

@@ -1,10 +1,8 @@
 -- Document 01, "Process", last paragraph: the replay prints `end`, the tokens of each place, and a line `clock` for each transition, in parts after the
 -- rest, `off` where not enabled.
-use Rattle.std.specs.Prelude.{ℕ, zero, suc, true, cond, List, [], ◌++◌}
+use Rattle.std.specs.Prelude.{ℕ, zero, suc, true, cond, List, [], ◌++◌, Err}
 use Rattle.laws.specs.Slots.{first_of}
-use Rattle.reply.specs.declared.Checked.{Checked}
-use Rattle.reply.specs.declared.Checked.TheVariants.{Passed, Refused}
-use Rattle.reply.specs.Respond.{Outcome, answer, refusal}
+use Rattle.reply.specs.Respond.{Outcome, answer, refusal, Checked, Passed}
 use Rattle.text.specs.Key.{bytes}
 use Rattle.text.specs.Decimal.{field}
 use Rattle.form.specs.Line.{items_text}
@@ -36,7 +34,7 @@ replayed net r = (replay net (rule_of (arcs_of net) r.memory) r).checked
 -- what a replay comes to: its end, or the first refusal
 abbrev pub ended : Net → Checked → State → Outcome
 ended net Passed st = answer (end_text net (view st))
-ended net (Refused r) st = refusal r
+ended net (Err r) st = refusal r
 
 abbrev pub replay_of : Net → Run → Outcome
 replay_of net r = ended net (replay net (rule_of (arcs_of net) r.memory) r).checked (replay net (rule_of (arcs_of net) r.memory) r).state

@@ -1,8 +1,7 @@
 -- The change requests of document 02 as statements, each under its sentence; proofs/Requests.antt proves each of them under the same name in small letters.
 use Rattle.std.specs.Prelude.{ℕ, suc, ◌-◌, ◌≤◌, ◌<◌, ◌≡◌, true, false, ◌↔◌, List, ◌++◌, length, get_or}
 use Rattle.reply.specs.declared.Refusal.TheVariants.{AnotherSheet}
-use Rattle.reply.specs.declared.Checked.TheVariants.{Passed}
-use Rattle.reply.specs.Respond.{Answered, refusal}
+use Rattle.reply.specs.Respond.{Answered, refusal, Passed}
 use Rattle.form.specs.Form.{found, refused}
 use Rattle.form.specs.Sheet.{sheet}
 use Rattle.net.specs.declared.Net.{Net}

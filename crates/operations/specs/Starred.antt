@@ -1,6 +1,6 @@
 -- The starred cases of document 01, "A session on paper": one list, and one check that is computed over all of it. Each case is what an operation over
 -- values comes to, the bytes of its answer included. Where 01 names no memory word, the case stands under all three. Behind them the cases of the change requests.
-use Rattle.std.specs.Prelude.{ℕ, ◌≡◌, refl, Bool, true, false, ◌&&◌, List, [], ◌∷◌, ◌++◌, length, eqb}
+use Rattle.std.specs.Prelude.{ℕ, ◌≡◌, refl, Bool, true, false, ◌&&◌, List, [], ◌∷◌, ◌++◌, length, eqb, None, Option, Some}
 use Rattle.laws.specs.Tests.{all_below}
 use Rattle.laws.specs.Arrays.{filled}
 use Rattle.laws.specs.Slots.{first_of, pad_to}
@@ -12,8 +12,6 @@ use Rattle.text.specs.Key.{bytes}
 use Rattle.text.specs.Decimal.{digits, width, decimal}
 use Rattle.form.specs.Form.{texts, lines_of, checks}
 use Rattle.form.specs.Line.{items_text, all_ranged}
-use Rattle.net.specs.declared.Latest.{Latest}
-use Rattle.net.specs.declared.Latest.TheVariants.{Unbounded, Ticks}
 use Rattle.net.specs.declared.Net.{Net}
 use Rattle.net.specs.Net.{Row, no_row, take_of, give_of, rows_of, to_net}
 use Rattle.run.specs.declared.Memory.{Memory}
@@ -32,7 +30,7 @@ use Rattle.operations.specs.Round.{round_values}
 use Rattle.operations.specs.Timetable.{timetable_values}
 
 -- ---- values, with the slots of the arrays of the code
-unfoldable pub row_for : ℕ → Latest → List ℕ → List ℕ → Row
+unfoldable pub row_for : ℕ → Option ℕ → List ℕ → List ℕ → Row
 row_for earliest latest take give = record { interval = record { earliest = earliest; latest = latest }; take = pad_to 16 0 take; give = pad_to 16 0 give }
 
 unfoldable pub net_for : ℕ → List ℕ → List Row → Net
@@ -47,27 +45,27 @@ run_for sheet memory D waits order =
 
 -- net A, on sheet 1: the motor pulse and the closing of the batch
 unfoldable pub net_a : Net
-net_a = net_for 1 (1 ∷ 1 ∷ []) (row_for 1 (Ticks 2) (1 ∷ 0 ∷ []) (1 ∷ 0 ∷ []) ∷ row_for 3 (Ticks 4) (1 ∷ 1 ∷ []) (0 ∷ 0 ∷ []) ∷ [])
+net_a = net_for 1 (1 ∷ 1 ∷ []) (row_for 1 (Some 2) (1 ∷ 0 ∷ []) (1 ∷ 0 ∷ []) ∷ row_for 3 (Some 4) (1 ∷ 1 ∷ []) (0 ∷ 0 ∷ []) ∷ [])
 
 unfoldable pub net_b : Net
 net_b =
     net_for 2 (1 ∷ 0 ∷ 1 ∷ [])
-    (row_for 0 Unbounded (1 ∷ 0 ∷ 0 ∷ []) (0 ∷ 1 ∷ 0 ∷ [])
-    ∷ row_for 5 (Ticks 5) (0 ∷ 0 ∷ 1 ∷ []) (0 ∷ 0 ∷ 0 ∷ [])
-    ∷ row_for 0 (Ticks 2) (0 ∷ 1 ∷ 0 ∷ []) (0 ∷ 0 ∷ 0 ∷ [])
+    (row_for 0 None (1 ∷ 0 ∷ 0 ∷ []) (0 ∷ 1 ∷ 0 ∷ [])
+    ∷ row_for 5 (Some 5) (0 ∷ 0 ∷ 1 ∷ []) (0 ∷ 0 ∷ 0 ∷ [])
+    ∷ row_for 0 (Some 2) (0 ∷ 1 ∷ 0 ∷ []) (0 ∷ 0 ∷ 0 ∷ [])
     ∷ [])
 
 -- one transition, 0 to inf, taking nothing and giving 255 to an empty place
 giver : Net
-giver = net_for 4 (0 ∷ []) (row_for 0 Unbounded (0 ∷ []) (255 ∷ []) ∷ [])
+giver = net_for 4 (0 ∷ []) (row_for 0 None (0 ∷ []) (255 ∷ []) ∷ [])
 
 -- beside the cases of 01: one transition that stays enabled while its token is away, so that under intermediate memory it restarts as "u is t" alone
 twice : Net
-twice = net_for 5 (2 ∷ []) (row_for 1 (Ticks 2) (1 ∷ []) (1 ∷ []) ∷ [])
+twice = net_for 5 (2 ∷ []) (row_for 1 (Some 2) (1 ∷ []) (1 ∷ []) ∷ [])
 
 -- two transitions that give back the one token they take
 loops : Net
-loops = net_for 6 (1 ∷ []) (row_for 1 (Ticks 1) (1 ∷ []) (1 ∷ []) ∷ row_for 2 (Ticks 2) (1 ∷ []) (1 ∷ []) ∷ [])
+loops = net_for 6 (1 ∷ []) (row_for 1 (Some 1) (1 ∷ []) (1 ∷ []) ∷ row_for 2 (Some 2) (1 ∷ []) (1 ∷ []) ∷ [])
 
 -- ---- what an operation comes to, and what it should
 pub record Case : Type 0 where

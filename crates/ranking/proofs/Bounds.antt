@@ -1,4 +1,5 @@
 -- How long a ranking's text is and which places its refusals have, for a caller that is told both in one number; and all that demand 1 asks of its replies.
+use Rattle.std.specs.Prelude.{Err}
 use Prim.Native.Nat.{ℕ, ◌≤◌}
 use native.Mathlib.Omega.{arith}
 use mathlib.Core.Path.{◌≡◌, refl, ap}
@@ -6,9 +7,8 @@ use mathlib.Core.List.{List}
 use lib.ListN.{length}
 use Rattle.reply.specs.declared.Refusal.{Refusal}
 use Rattle.reply.specs.declared.Refusal.TheVariants.{OutputTooShort}
-use Rattle.reply.specs.declared.Checked.TheVariants.{Passed, Refused}
 use Rattle.reply.specs.Refusal.{number_of, position_of}
-use Rattle.reply.specs.Respond.{answer, refusal}
+use Rattle.reply.specs.Respond.{answer, refusal, Passed}
 use Rattle.reply.proofs.Bounds.{Bounds}
 use Rattle.reply.proofs.Laws.{demanded}
 use Rattle.net.specs.declared.Net.{Net}
@@ -41,7 +41,7 @@ module _ (net : Net) (x y : Run) (p : two_runs_checked net x y ≡ Passed) where
       let (a, b, small) = lead_small x y (ready net x y p rankable) in
       ranked_short a b small.1 small.2 text (rw small.0 (rw rankable at e))
 
-  replay_own : (run : Run) → run.count ≤ 64 → {r : Refusal} → replayed net run ≡ Refused r → Own r
+  replay_own : (run : Run) → run.count ≤ 64 → {r : Refusal} → replayed net run ≡ Err r → Own r
   replay_own run few {r} e =
       let h = replay_place net (rule_of (arcs_of net) run.memory) run r e in
       placed_own (h.0, omega (arith, h.1))

@@ -3,12 +3,18 @@ use Prim.Native.Nat.{ℕ, ◌+◌, ◌≤◌, ◌<◌, min}
 use native.Mathlib.Nat.{min-eq_left, not-suc-le-zero, le_of_suc-le-suc, eq-or-lt_of_le}
 use native.Mathlib.Numerals.{add-one}
 use native.Mathlib.Omega.{arith}
-use mathlib.Core.Path.{◌≡◌, sym, ap, ◌∙◌}
-use mathlib.Core.Bool.{true, false}
+use mathlib.Core.Path.{◌≡◌, refl, sym, ap, ◌∙◌}
+use mathlib.Core.Bool.{Bool, true, false, cond}
 use mathlib.Core.Logic.{⊎_elim}
 use mathlib.Core.List.{List}
 use lib.ListN.{length, get_or}
 use Rattle.laws.specs.Slots.{first_of, mapped_same}
+use Rattle.std.specs.Prelude.{Err}
+use Rattle.reply.specs.declared.Refusal.{Refusal}
+use Rattle.reply.specs.declared.Refusal.TheVariants.{OtherOrder}
+use Rattle.reply.specs.Respond.{Passed}
+use Rattle.ranking.specs.Lead.{of_one_order}
+use Rattle.ranking.specs.Ranking.{rankable}
 use Rattle.laws.specs.Tests.{same_numbers, same_numbers_exactly, not_same}
 use Rattle.form.specs.Form.{also}
 use Rattle.form.proofs.Found.{also_also}
@@ -85,3 +91,16 @@ two_runs_lem net x y = also_also (net_card.check net 1) ((card_of run_card net).
 pub replay_says : (net : Net) (r : Run) {p : Played}
     → p ≡ play net (rule_of (arcs_of net) r.memory) r.denominator (firings_of r) (start_state net) 0 → replayed net r ≡ p.checked
 replay_says net r e = replay_plays net (rule_of (arcs_of net) r.memory) r ∙ ap (λ (q : Played). q.checked) (sym e)
+
+-- ---- why two runs are not ranked
+module _ (net : Net) (x y : Run) where
+  pub x_stops : {r : Refusal} → replayed net x ≡ Err r → Err r ≡ rankable net x y
+  x_stops e = rw e refl
+
+  module _ (p : replayed net x ≡ Passed) where
+    pub y_stops : {r : Refusal} → replayed net y ≡ Err r → Err r ≡ rankable net x y
+    y_stops e = rw (p, e) refl
+
+    -- both pass: the orders decide
+    pub one_order_lem : {b : Bool} → replayed net y ≡ Passed → of_one_order x y ≡ b → cond b Passed (Err OtherOrder) ≡ rankable net x y
+    one_order_lem q e = rw (p, q, e) refl

@@ -1,4 +1,5 @@
 -- Two runs counted side by side: the products that decide, how small they are, and the sign of their difference.
+use Rattle.reply.specs.Respond.{Passed}
 use Prim.Native.Nat.{ℕ, zero, suc, ◌+◌, ◌-◌, ◌*◌, ◌^◌, ◌≤◌, ◌<◌, min}
 use native.Mathlib.Nat.{lt_of_le_of_lt, mul-le-mul}
 use native.Mathlib.Numerals.{add-one}
@@ -10,7 +11,6 @@ use lib.Dec.{lit<}
 use lib.IntN.{pos, negsuc, ◌-ℤ◌}
 use Rattle.laws.specs.Differences.{same_exactly, less_exactly, more_exactly}
 use Rattle.laws.specs.Each.{each_at}
-use Rattle.reply.specs.declared.Checked.TheVariants.{Passed}
 use Rattle.run.specs.declared.Run.{Run}
 use Rattle.run.specs.Run.{run_card, no_firing, firings_of, waits_of}
 use Rattle.run.proofs.Ranges.{FiringFits, RunFits, run_in_ranges}

@@ -6,8 +6,7 @@ use mathlib.Core.Path.{◌≡◌, sym, ap, subst, ◌∙◌}
 use mathlib.Core.Logic.{⊎_elim}
 use mathlib.Core.List.{List}
 use lib.ListN.{length}
-use Rattle.reply.specs.declared.Checked.TheVariants.{Passed}
-use Rattle.reply.specs.Respond.{answer}
+use Rattle.reply.specs.Respond.{answer, Passed}
 use Rattle.form.specs.Form.{found}
 use Rattle.form.proofs.Found.{found_value, also_second}
 use Rattle.net.specs.declared.Net.{Net}

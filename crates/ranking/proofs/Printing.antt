@@ -13,9 +13,8 @@ use Rattle.text.specs.Key.{bytes}
 use Rattle.text.specs.Decimal.{decimal}
 use Rattle.text.proofs.DecimalLaws.{digits_few}
 use Rattle.operations.proofs.Answers.{answer_bytes}
-use Rattle.ranking.specs.declared.Ranking.TheVariants.{Ranked}
 use Rattle.ranking.specs.Lead.{sign_of}
-use Rattle.ranking.specs.Ranking.{signed, printed}
+use Rattle.ranking.specs.Ranking.{Ranked, signed, printed}
 
 -- ---- with its sign
 module _ (x y : ℕ) where

@@ -1,4 +1,5 @@
 -- The request, proved as specs/Request.antt states it, under the same names.
+use Rattle.std.specs.Prelude.{Err}
 use Prim.Native.Nat.{ℕ, ◌≤◌, ◌<◌}
 use native.Mathlib.Omega.{arith}
 use mathlib.Core.Path.{◌≡◌, refl, sym, ap, subst, subst⁻¹, ◌∙◌}
@@ -8,10 +9,8 @@ use lib.ListN.{length}
 use lib.IntN.{ℤ, pos, negsuc}
 use Rattle.reply.specs.declared.Refusal.{Refusal}
 use Rattle.reply.specs.declared.Refusal.TheVariants.{AnotherSheet}
-use Rattle.reply.specs.declared.Checked.{Checked}
-use Rattle.reply.specs.declared.Checked.TheVariants as checked
 use Rattle.reply.specs.Refusal.{number_of, position_of}
-use Rattle.reply.specs.Respond.{answer, Answered}
+use Rattle.reply.specs.Respond.{answer, Answered, Checked, Passed}
 use Rattle.form.specs.Form.{Found, found, refused, found_if, also}
 use Rattle.form.proofs.Found.{also_first, also_second, also_refused}
 use Rattle.net.specs.declared.Net.{Net}
@@ -54,7 +53,7 @@ use Rattle.ranking.proofs.First.{read_earliest}
 use Rattle.ranking.proofs.First as first
 use Rattle.ranking.proofs.Slots.{same_rank_of, same_rank_values}
 
-some_parts : (net : Net) (r : Run) → run_checked net r ≡ checked.Passed → 0 < r.denominator
+some_parts : (net : Net) (r : Run) → run_checked net r ≡ Passed → 0 < r.denominator
 some_parts net r p = ((run_in_ranges net.sheet net.transitions r).0 (also_second (net_card.check net 1) ((card_of run_card net).check r 1) p)).some_parts
 
 -- ---- when runs are ranked
@@ -163,14 +162,14 @@ transitive net x y z a b ab bc p q =
 -- ---- timetables
 -- a run of the timetable's order does not stand before it
 not_before : (net : Net) (o : Order) (bytes : List ℕ) (t r : Run) → timetable_values net o ≡ answer bytes → read_run net bytes ≡ found t (length bytes)
-    → run_checked net r ≡ checked.Passed → replayed net r ≡ checked.Passed → OfOneOrder t r → Before r t → ⊥
+    → run_checked net r ≡ Passed → replayed net r ≡ Passed → OfOneOrder t r → Before r t → ⊥
 not_before net o bytes t r e read p accepted one =
     let (passed, by) = (once_answer (order_checked net o) (timetable_of net o) bytes).0 e in
     let rule : Memory → Restart = rule_of (arcs_of net) in
     let early = (read_earliest net (rule o.memory) o bytes t passed by read).0 in
     let word : o.memory ≡ r.memory = sym early.memory ∙ one.0 in
     first.timetable_never_after net (rule o.memory) o bytes t passed by read r p
-    (subst⁻¹ (λ (m : Memory). (replay net (rule m) r).checked ≡ checked.Passed) word accepted) (sym one.1 ∙ early.order)
+    (subst⁻¹ (λ (m : Memory). (replay net (rule m) r).checked ≡ Passed) word accepted) (sym one.1 ∙ early.order)
 
 pub timetable_first : TimetableFirst
 timetable_first = (
@@ -190,7 +189,7 @@ timetable_first = (
 
 -- ---- refusals
 -- a replay does not refuse with place 0
-replay_placed : (net : Net) (r : Run) {e : Refusal} → replayed net r ≡ checked.Refused e → 0 < position_of e
+replay_placed : (net : Net) (r : Run) {e : Refusal} → replayed net r ≡ Err e → 0 < position_of e
 replay_placed net r {e} h = (replay_place net (rule_of (arcs_of net) r.memory) r e h).0
 
 pub refused_in_order : RefusedInOrder
@@ -213,7 +212,7 @@ pub rank_of_cards : RankOfCards
 rank_of_cards = (λ s e p. rw p refl, λ s net x y next e. rw (e, (two_runs_was s e).passed) refl)
 
 -- what is read back from the cards of values is the same up to the slots past the counts
-module _ (net : Net) (x y : Run) (p : two_runs_checked net x y ≡ checked.Passed) where
+module _ (net : Net) (x y : Run) (p : two_runs_checked net x y ≡ Passed) where
   clean_net : SameNet (net_card.clean net) net
   clean_net = let (places, transitions, count) = run_counts net x (each_passed net x y p).0 in net_same net places transitions
 
@@ -230,8 +229,8 @@ rank_as_cards net x y = rw (two_runs_told net x y) (go (two_runs_checked net x y
         ≡ once_read {A = Net × (Run × Run)}
         (found_if c (net_card.clean net, ((card_of run_card net).clean x, (card_of run_card net).clean y)) (length (two_runs_input net x y)))
         (λ v. printed (rank_of v.0 v.1.0 v.1.1))
-    go checked.Passed p = ap printed (sym (same_rank_of (clean_net net x y p) (clean_x net x y p) (clean_y net x y p)))
-    go (checked.Refused e) p = refl
+    go Passed p = ap printed (sym (same_rank_of (clean_net net x y p) (clean_x net x y p) (clean_y net x y p)))
+    go (Err e) p = refl
 
 pub ranked_sheet : RankedSheet
 ranked_sheet net x y rank lead e =
@@ -242,7 +241,7 @@ pub rank_wrong_sheet : RankWrongSheet
 rank_wrong_sheet net p = (
   λ x y small other. rw (two_runs_lem net x y, run_wrong_sheet net p x small other) refl,
   λ x y first small other.
-      let second : (card_of run_card net).check y 1 ≡ checked.Refused (AnotherSheet 1) = rw p at (run_wrong_sheet net p y small other) in
+      let second : (card_of run_card net).check y 1 ≡ Err (AnotherSheet 1) = rw p at (run_wrong_sheet net p y small other) in
       rw (two_runs_lem net x y, first, second) refl,
   λ n small other rest. (
     rw (first_at_once net n small other rest p) refl,
@@ -251,15 +250,15 @@ rank_wrong_sheet net p = (
 )
 
 -- a replay is 5, 6 or 7, and behind both 10 comes
-rank_elsewhere : (net : Net) (x y : Run) → rankable net x y ≡ checked.Refused (AnotherSheet 1) → ⊥
+rank_elsewhere : (net : Net) (x y : Run) → rankable net x y ≡ Err (AnotherSheet 1) → ⊥
 rank_elsewhere net x y =
-    let number : (r : Run) → replayed net r ≡ checked.Refused (AnotherSheet 1) → ⊥ =
+    let number : (r : Run) → replayed net r ≡ Err (AnotherSheet 1) → ⊥ =
     λ r e. let h : 11 ≤ 7 = replay_number net (rule_of (arcs_of net) r.memory) r (AnotherSheet 1) e in omega arith in
     refused_cases net x y (number x) (λ p. number y) (λ p q other e. omega (arith, ap number_of e))
 
 -- where values are told so: X is elsewhere, or X passes and Y is
-checks_elsewhere : (net : Net) (x y : Run) → two_runs_checked net x y ≡ checked.Refused (AnotherSheet 1)
-    → Elsewhere net x.sheet ⊎ ((run_checked net x ≡ checked.Passed) × Elsewhere net y.sheet)
+checks_elsewhere : (net : Net) (x y : Run) → two_runs_checked net x y ≡ Err (AnotherSheet 1)
+    → Elsewhere net x.sheet ⊎ ((run_checked net x ≡ Passed) × Elsewhere net y.sheet)
 checks_elsewhere net x y =
     let card = card_of run_card net in
     also_refused (net_card.check net 1) (also (card.check x 1) (card.check y 1)) (λ p. absurd (net_judged net p)) (λ p.

@@ -1,4 +1,6 @@
 -- Slots past the counts are no part of a run: nets and runs that agree in all that counts are ranked alike.
+use Rattle.reply.specs.Respond.{Checked, Passed}
+use Rattle.std.specs.Prelude.{Err}
 use Prim.Native.Nat.{ℕ, zero, suc, ◌+◌, ◌*◌}
 use mathlib.Core.Path.{◌≡◌, refl, ap, ◌∙◌}
 use mathlib.Core.Bool.{Bool, cond, ◌&&◌}
@@ -8,8 +10,6 @@ use lib.Dec.{ltb}
 use lib.IntN.{ℤ, pos, ◌-ℤ◌}
 use Rattle.laws.specs.Tests.{same_numbers}
 use Rattle.reply.specs.declared.Refusal.TheVariants.{OtherOrder}
-use Rattle.reply.specs.declared.Checked.{Checked}
-use Rattle.reply.specs.declared.Checked.TheVariants.{Passed, Refused}
 use Rattle.form.specs.Form.{also, Form}
 use Rattle.net.specs.declared.Net.{Net}
 use Rattle.net.specs.Net.{net_card}
@@ -28,9 +28,8 @@ use Rattle.cards.specs.Cards.{card_of, two_runs_checked}
 use Rattle.cards.proofs.Cards.{same_card}
 use Rattle.operations.proofs.Same.{replays_same}
 use Rattle.operations.specs.Replay.{replayed}
-use Rattle.ranking.specs.declared.Ranking.TheVariants.{Ranked}
 use Rattle.ranking.specs.Lead.{of_one_order, instant_of, lead_at, unless_level, lead_from, lead_of, sign_of}
-use Rattle.ranking.specs.Ranking.{rankable, ranked_if, rank_of, rank_values}
+use Rattle.ranking.specs.Ranking.{Ranked, rankable, ranked_if, rank_of, rank_values}
 
 -- each instant
 same_instant : {r q : Run} → SameRun r q → (i : ℕ) → instant_of r i ≡ instant_of q i
@@ -85,7 +84,7 @@ module _ {a b : Net} (n : SameNet a b) {x y p q : Run} (s : SameRun x p) (t : Sa
 
   same_rankable : rankable a x y ≡ rankable b p q
   same_rankable =
-      let of : Checked → Checked → Bool → Checked = λ c d k. also c (also d (cond k Passed (Refused OtherOrder))) in
+      let of : Checked → Checked → Bool → Checked = λ c d k. also c (also d (cond k Passed (Err OtherOrder))) in
       ap (λ (c : Checked). of c (replayed a y) (of_one_order x y)) (same_replayed s)
       ∙ ap (λ (d : Checked). of (replayed b p) d (of_one_order x y)) (same_replayed t)
       ∙ ap (of (replayed b p) (replayed b q)) (same_test s t)

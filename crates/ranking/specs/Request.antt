@@ -1,9 +1,8 @@
 -- Document 02, "Ranking two answers", as statements, each under its sentence; proofs/Request.antt proves each of them under the same name in small letters.
-use Rattle.std.specs.Prelude.{ℕ, ◌≤◌, ◌≡◌, ◌↔◌, ◌⊎◌, List, ◌++◌, length, take, ℤ, pos, negsuc, neg_ℤ}
+use Rattle.std.specs.Prelude.{ℕ, ◌≤◌, ◌≡◌, ◌↔◌, ◌⊎◌, List, ◌++◌, length, take, ℤ, pos, negsuc, neg_ℤ, Err}
 use Rattle.reply.specs.declared.Refusal.{Refusal}
 use Rattle.reply.specs.declared.Refusal.TheVariants.{OtherOrder, AnotherSheet}
-use Rattle.reply.specs.declared.Checked.TheVariants as checked
-use Rattle.reply.specs.Respond.{answer, refusal, Answered}
+use Rattle.reply.specs.Respond.{answer, refusal, Answered, Passed}
 use Rattle.reply.specs.Demanded.{Demanded}
 use Rattle.form.specs.Form.{found, refused}
 use Rattle.form.specs.Sheet.{sheet}
@@ -22,16 +21,15 @@ use Rattle.operations.specs.Timetable.{timetable_by, timetable_values}
 use Rattle.operations.specs.Demands.{Allows}
 use Rattle.operations.specs.Requests.{Elsewhere}
 use Rattle.operations.specs.Replay.{replayed}
-use Rattle.ranking.specs.declared.Ranking.TheVariants.{Ranked, Refused}
 use Rattle.ranking.specs.Lead.{lead_at, sign_of}
 use Rattle.ranking.specs.Claims.{OfOneOrder, Before, Level}
-use Rattle.ranking.specs.Ranking.{rank_values, printed, rank_cards}
+use Rattle.ranking.specs.Ranking.{Ranked, rank_values, printed, rank_cards}
 
 -- "Tutors rank runs of one order on one net": exactly those that pass their checks, that the published semantics allows and that are of one order
 abbrev pub RankedExactly : Type 0
 RankedExactly =
     ((net : Net) (x y : Run) → ((rank : ℤ) × (lead : ℤ) × (rank_values net x y ≡ Ranked rank lead))
-    ↔ ((two_runs_checked net x y ≡ checked.Passed) × Allows net x × Allows net y × OfOneOrder x y))
+    ↔ ((two_runs_checked net x y ≡ Passed) × Allows net x × Allows net y × OfOneOrder x y))
     × ((s : List ℕ) → Answered (rank_cards s)
     ↔ ((net : Net) × (x : Run) × (y : Run) × (two_runs s ≡ found (net, (x, y)) (length s)) × Allows net x × Allows net y × OfOneOrder x y))
 
@@ -70,9 +68,9 @@ Transitive =
 -- "a timetable never ranks after another run of its order", whatever that run's denominator and rest: for any restart rule, and of the operations
 abbrev pub TimetableFirst : Type 0
 TimetableFirst =
-    ((net : Net) (restarts : Restart) (o : Order) (bytes : List ℕ) (r t : Run) → order_checked net o ≡ checked.Passed
-    → timetable_by net restarts o ≡ answer bytes → read_run net bytes ≡ found t (length bytes) → run_checked net r ≡ checked.Passed
-    → (replay net restarts r).checked ≡ checked.Passed → order_of (firings_of r) ≡ fires_of o → Before r t → ⊥)
+    ((net : Net) (restarts : Restart) (o : Order) (bytes : List ℕ) (r t : Run) → order_checked net o ≡ Passed
+    → timetable_by net restarts o ≡ answer bytes → read_run net bytes ≡ found t (length bytes) → run_checked net r ≡ Passed
+    → (replay net restarts r).checked ≡ Passed → order_of (firings_of r) ≡ fires_of o → Before r t → ⊥)
     × ((net : Net) (o : Order) (bytes : List ℕ) (t r : Run) (rank lead : ℤ) → timetable_values net o ≡ answer bytes
     → read_run net bytes ≡ found t (length bytes)
     → (rank_values net t r ≡ Ranked rank lead → rank ≡ pos 1 → ⊥) × (rank_values net r t ≡ Ranked rank lead → rank ≡ negsuc 0 → ⊥))
@@ -80,11 +78,11 @@ TimetableFirst =
 -- "both are read, then replayed, X before Y; a different memory or order of firings is refused after both replays as 10"
 abbrev pub RefusedInOrder : Type 0
 RefusedInOrder =
-    ((net : Net) (x y : Run) (e : Refusal) → two_runs_checked net x y ≡ checked.Refused e → rank_values net x y ≡ Refused e)
-    × ((net : Net) (x y : Run) → two_runs_checked net x y ≡ checked.Passed
-    → ((e : Refusal) → replayed net x ≡ checked.Refused e → rank_values net x y ≡ Refused e)
-    × ((e : Refusal) → Allows net x → replayed net y ≡ checked.Refused e → rank_values net x y ≡ Refused e)
-    × ((rank_values net x y ≡ Refused OtherOrder) ↔ (Allows net x × Allows net y × (OfOneOrder x y → ⊥))))
+    ((net : Net) (x y : Run) (e : Refusal) → two_runs_checked net x y ≡ Err e → rank_values net x y ≡ Err e)
+    × ((net : Net) (x y : Run) → two_runs_checked net x y ≡ Passed
+    → ((e : Refusal) → replayed net x ≡ Err e → rank_values net x y ≡ Err e)
+    × ((e : Refusal) → Allows net x → replayed net y ≡ Err e → rank_values net x y ≡ Err e)
+    × ((rank_values net x y ≡ Err OtherOrder) ↔ (Allows net x × Allows net y × (OfOneOrder x y → ⊥))))
 
 -- over cards it is the same, in front of the printing; and values are ranked as their cards
 abbrev pub RankOfCards : Type 0
@@ -102,19 +100,19 @@ RankedSheet = (net : Net) (x y : Run) (rank lead : ℤ) → rank_values net x y 
 -- another sheet is 11 at line 1: X's before Y is looked at, Y's before any replay; over cards whatever stands behind the line
 abbrev pub RankWrongSheet : Type 0
 RankWrongSheet =
-    (net : Net) → net_card.check net 1 ≡ checked.Passed
-    → ((x y : Run) → x.sheet ≤ 9999 → (x.sheet ≡ net.sheet → ⊥) → rank_values net x y ≡ Refused (AnotherSheet 1))
-    × ((x y : Run) → run_checked net x ≡ checked.Passed → y.sheet ≤ 9999 → (y.sheet ≡ net.sheet → ⊥) → rank_values net x y ≡ Refused (AnotherSheet 1))
+    (net : Net) → net_card.check net 1 ≡ Passed
+    → ((x y : Run) → x.sheet ≤ 9999 → (x.sheet ≡ net.sheet → ⊥) → rank_values net x y ≡ Err (AnotherSheet 1))
+    × ((x y : Run) → run_checked net x ≡ Passed → y.sheet ≤ 9999 → (y.sheet ≡ net.sheet → ⊥) → rank_values net x y ≡ Err (AnotherSheet 1))
     × ((n : ℕ) → n ≤ 9999 → (n ≡ net.sheet → ⊥) → (rest : List ℕ) → let line = sheet.text n ++ rest in
     (rank_cards (net_card.text net ++ line) ≡ refusal (AnotherSheet 1))
-    × ((x : Run) → (card_of run_card net).check x 1 ≡ checked.Passed
+    × ((x : Run) → (card_of run_card net).check x 1 ≡ Passed
     → rank_cards (net_card.text net ++ ((card_of run_card net).text x ++ line)) ≡ refusal (AnotherSheet 1)))
 
 -- and it is told of nothing else
 abbrev pub RankWrongSheetExactly : Type 0
 RankWrongSheetExactly =
-    ((net : Net) (x y : Run) → (rank_values net x y ≡ Refused (AnotherSheet 1))
-    ↔ (Elsewhere net x.sheet ⊎ ((run_checked net x ≡ checked.Passed) × Elsewhere net y.sheet)))
+    ((net : Net) (x y : Run) → (rank_values net x y ≡ Err (AnotherSheet 1))
+    ↔ (Elsewhere net x.sheet ⊎ ((run_checked net x ≡ Passed) × Elsewhere net y.sheet)))
     × ((s : List ℕ) → (rank_cards s ≡ refusal (AnotherSheet 1)) ↔ (OnAnotherSheet s ⊎ SecondOnAnother s))
 
 -- ---- what demands 1 and 2 ask of every operation
@@ -132,6 +130,6 @@ RankPrefix = (s : List ℕ) (k : ℕ) → 16046 ≤ k → rank_cards (take k s) 
 abbrev pub TwoRunsInverse : Type 0
 TwoRunsInverse =
     ((s : List ℕ) (net : Net) (x y : Run) (next : ℕ) → two_runs s ≡ found (net, (x, y)) next → two_runs_input net x y ≡ s)
-    × ((net : Net) (x y : Run) → two_runs_checked net x y ≡ checked.Passed
+    × ((net : Net) (x y : Run) → two_runs_checked net x y ≡ Passed
     → (n : Net) × (p : Run) × (q : Run) × (two_runs (two_runs_input net x y) ≡ found (n, (p, q)) (length (two_runs_input net x y)))
     × SameNet n net × SameRun p x × SameRun q y)

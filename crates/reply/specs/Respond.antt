@@ -1,11 +1,18 @@
 -- What an operation's outcome means for the caller's reply and the caller's output.
-use Rattle.std.specs.Prelude.{ℕ, ◌≤◌, ◌≡◌, cond, List, ◌++◌, length, take, drop, ltb}
+use Rattle.std.specs.Prelude.{ℕ, ◌≤◌, ◌≡◌, cond, List, ◌++◌, length, take, drop, ltb, Result, Ok, Err}
 use Rattle.reply.specs.declared.Refusal.{Refusal}
 use Rattle.reply.specs.declared.Refusal.TheVariants.{OutputTooShort}
-use Rattle.reply.specs.declared.Checked.{Checked}
-use Rattle.reply.specs.declared.Checked.TheVariants as checked
-use Rattle.reply.specs.declared.Reply.{Reply}
-use Rattle.reply.specs.declared.Reply.TheVariants.{Written, Refused}
+
+-- what a check of a value or of one line says
+abbrev pub Checked : Type 0
+Checked = Result (Unit {0}) Refusal
+
+pattern abbrev pub Passed : Checked
+Passed = Ok tt
+
+-- what the caller of an operation with an output is told: how many bytes the answer has, or why there is none
+abbrev pub Reply : Type 0
+Reply = Result ℕ Refusal
 
 -- what an operation finds before it looks at the output: the bytes of the answer, or a refusal
 pub data Outcome : Type 0 where
@@ -14,8 +21,8 @@ pub data Outcome : Type 0 where
 
 -- the text of a value that passes its check, or the refusal
 abbrev pub written_if : Checked → List ℕ → Outcome
-written_if checked.Passed text = answer text
-written_if (checked.Refused r) text = refusal r
+written_if Passed text = answer text
+written_if (Err r) text = refusal r
 
 -- there is an answer: no refusal but 9 can come of it
 abbrev pub Answered : Outcome → Type 0
@@ -23,8 +30,8 @@ Answered o = (bytes : List ℕ) × (o ≡ answer bytes)
 
 -- the reply, from the outcome and the output at entry
 abbrev pub reply_to : Outcome → List ℕ → Reply
-reply_to (answer bytes) out = cond (ltb (length out) (length bytes)) (Refused OutputTooShort) (Written (length bytes))
-reply_to (refusal r) out = Refused r
+reply_to (answer bytes) out = cond (ltb (length out) (length bytes)) (Err OutputTooShort) (Ok (length bytes))
+reply_to (refusal r) out = Err r
 
 -- the output at exit: an answer fills it from its first byte and the bytes behind it stay; otherwise it stays as it was
 abbrev pub output_of : Outcome → List ℕ → List ℕ
@@ -36,7 +43,7 @@ pub record Responded (o : Outcome) (entry : List ℕ) (r : Reply) (exit : List �
   pub reply : r ≡ reply_to o entry
   pub output : exit ≡ output_of o entry
 
--- a reply `Written n` comes with the n bytes of the answer at the front, and the bytes behind them stay
+-- a reply `Ok n` comes with the n bytes of the answer at the front, and the bytes behind them stay
 pub record Filled (bytes out after : List ℕ) (n : ℕ) : Type 0 where
   pub all : n ≡ length bytes
   pub fits : n ≤ length out

@@ -28,74 +28,62 @@ pub enum Refusal {
     ClosedRun,
 }
 
-// What a check of a value or of one line says.
-#[derive(Clone, Copy)]
-pub enum Checked {
-    Passed,
-    Refused(Refusal),
-}
+impl Refusal {
+    // The refusal's number in documents 01 and 02.
+    pub fn number(self) -> u32
+        ensures { result ≡ number_of self }
+    {
+        match self {
+            Refusal::Malformed(_) => 1,
+            Refusal::OutOfRange(_) => 2,
+            Refusal::LatestBelowEarliest(_) => 3,
+            Refusal::NoSuchTransition(_) => 4,
+            Refusal::NotEnabled(_) => 5,
+            Refusal::TooManyTokens(_) => 6,
+            Refusal::OutsideInterval(_) => 7,
+            Refusal::Untimable(_) => 8,
+            Refusal::OutputTooShort => 9,
+            Refusal::OtherOrder => 10,
+            Refusal::AnotherSheet(_) => 11,
+            Refusal::BadPairs => 12,
+            Refusal::UnequalStarts => 13,
+            Refusal::TooLarge => 14,
+            Refusal::ClosedRun => 15,
+        }
+    }
 
-// What the caller of an operation with an output is told: how many bytes the answer has, or why there is none.
-#[derive(Clone, Copy)]
-pub enum Reply {
-    Written(usize),
-    Refused(Refusal),
-}
-
-// The refusal's number in documents 01 and 02.
-pub fn number_of(r: Refusal) -> u32
-    ensures { result ≡ number_of r }
-{
-    match r {
-        Refusal::Malformed(_) => 1,
-        Refusal::OutOfRange(_) => 2,
-        Refusal::LatestBelowEarliest(_) => 3,
-        Refusal::NoSuchTransition(_) => 4,
-        Refusal::NotEnabled(_) => 5,
-        Refusal::TooManyTokens(_) => 6,
-        Refusal::OutsideInterval(_) => 7,
-        Refusal::Untimable(_) => 8,
-        Refusal::OutputTooShort => 9,
-        Refusal::OtherOrder => 10,
-        Refusal::AnotherSheet(_) => 11,
-        Refusal::BadPairs => 12,
-        Refusal::UnequalStarts => 13,
-        Refusal::TooLarge => 14,
-        Refusal::ClosedRun => 15,
+    // The refusal's place in documents 01 and 02; 0 where it has none.
+    pub fn position(self) -> usize
+        ensures { result ≡ position_of self }
+    {
+        match self {
+            Refusal::Malformed(line)
+            | Refusal::OutOfRange(line)
+            | Refusal::LatestBelowEarliest(line)
+            | Refusal::NoSuchTransition(line)
+            | Refusal::AnotherSheet(line) => line,
+            Refusal::NotEnabled(firing)
+            | Refusal::TooManyTokens(firing)
+            | Refusal::OutsideInterval(firing)
+            | Refusal::Untimable(firing) => firing,
+            Refusal::OutputTooShort
+            | Refusal::OtherOrder
+            | Refusal::BadPairs
+            | Refusal::UnequalStarts
+            | Refusal::TooLarge
+            | Refusal::ClosedRun => 0,
+        }
     }
 }
 
-// The refusal's place in documents 01 and 02; 0 where it has none.
-pub fn position_of(r: Refusal) -> usize
-    ensures { result ≡ position_of r }
-{
-    match r {
-        Refusal::Malformed(line) => line,
-        Refusal::OutOfRange(line) => line,
-        Refusal::LatestBelowEarliest(line) => line,
-        Refusal::NoSuchTransition(line) => line,
-        Refusal::NotEnabled(firing) => firing,
-        Refusal::TooManyTokens(firing) => firing,
-        Refusal::OutsideInterval(firing) => firing,
-        Refusal::Untimable(firing) => firing,
-        Refusal::OutputTooShort => 0,
-        Refusal::OtherOrder => 0,
-        Refusal::AnotherSheet(line) => line,
-        Refusal::BadPairs => 0,
-        Refusal::UnequalStarts => 0,
-        Refusal::TooLarge => 0,
-        Refusal::ClosedRun => 0,
-    }
-}
-
-// The answer copied to the front of the output, or 9 and no byte written where the output is shorter.
-pub fn respond(text: &[u8], out: &mut [u8]) -> Reply
+// The answer copied to the front of the output, and how many bytes it has; or 9 and no byte written where the output is shorter.
+pub fn respond(text: &[u8], out: &mut [u8]) -> Result<usize, Refusal>
     ensures { Responded (answer text.now) out.old result out.new }
 {
     if out.len() < text.len() {
-        return Reply::Refused(Refusal::OutputTooShort);
+        return Err(Refusal::OutputTooShort);
     }
     let n = text.len().min(out.len());
     out[..n].copy_from_slice(&text[..n]);
-    Reply::Written(n)
+    Ok(n)
 }

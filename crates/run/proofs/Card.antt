@@ -1,5 +1,6 @@
 -- Run cards and order cards are formats: each of their lines is one, and the count of firings bounds how many follow. No memory word
 -- begins like another.
+use Rattle.reply.specs.Respond.{Passed}
 use Prim.Native.Nat.{ℕ, ◌+◌, ◌≤◌}
 use native.Mathlib.Omega.{arith}
 use mathlib.Core.Path.{◌≡◌, refl, sym, ap, ◌∙◌}
@@ -9,7 +10,6 @@ use lib.ListN.{length, drop}
 use lib.Dec.{lit<}
 use Rattle.reply.specs.declared.Refusal.{Refusal}
 use Rattle.reply.specs.declared.Refusal.TheVariants.{Malformed}
-use Rattle.reply.specs.declared.Checked.TheVariants.{Passed}
 use Rattle.reply.specs.Refusal.{position_of}
 use Rattle.text.specs.Key.{bytes, begins_with}
 use Rattle.text.proofs.KeyLaws.{begins_text, begins_take}

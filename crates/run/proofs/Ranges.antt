@@ -1,4 +1,5 @@
 -- A run card, and an order card, passes its check exactly when it is on its net's sheet and each of its numbers lies in its range.
+use Rattle.reply.specs.Respond.{Passed}
 use Prim.Native.Nat.{ℕ, ◌+◌, ◌≤◌, ◌<◌}
 use native.Mathlib.Omega.{arith}
 use mathlib.Core.Path.{◌≡◌, refl}
@@ -8,7 +9,6 @@ use lib.Dec.{ltb}
 use borrow.Author.Tests.{le-leb, lt-ltb, ltb-true}
 use Rattle.laws.specs.Each.{Each}
 use Rattle.reply.specs.declared.Refusal.TheVariants.{NoSuchTransition}
-use Rattle.reply.specs.declared.Checked.TheVariants.{Passed}
 use Rattle.form.specs.Form.{checks}
 use Rattle.form.specs.Line.{ranged, listed}
 use Rattle.form.proofs.Found.{also_first, also_second, checks_each, test_passed}

@@ -1,8 +1,8 @@
 -- Document 01, "Cards", and document 02, Q-3: the run card and the order card of a net on a sheet and with so many transitions, line by line.
+use Rattle.reply.specs.Respond.{Passed}
 use Rattle.std.specs.Prelude.{ℕ, ◌+◌, min, cond, List, map, length, drop}
 use Rattle.laws.specs.Slots.{first_of}
 use Rattle.reply.specs.declared.Refusal.TheVariants.{Malformed}
-use Rattle.reply.specs.declared.Checked.TheVariants.{Passed}
 use Rattle.text.specs.Key.{bytes, begins_with}
 use Rattle.form.specs.Form.{found, refused, Form, keyed, chain, times, held}
 use Rattle.form.specs.Line.{ranged, listed, number}

@@ -2,7 +2,7 @@
 #![tactic(auto)]
 
 // The memory rule: which clocks restart at a firing.
-#[derive(Clone, Copy)]
+#[derive(Clone, Copy, PartialEq, Eq)]
 pub enum Memory {
     Intermediate,
     Atomic,

@@ -1,5 +1,7 @@
 -- A run and an order as values, by the cases of the code: the first refusal counts, and behind the parts that pass the answer is that of the
 -- part that follows.
+use Rattle.reply.specs.Respond.{Checked, Passed}
+use Rattle.std.specs.Prelude.{Err}
 use Prim.Native.Nat.{ℕ, ◌+◌, ◌*◌, ◌<◌, min}
 use native.Mathlib.Nat.{min-eq_left}
 use native.Mathlib.Omega.{arith}
@@ -8,8 +10,6 @@ use mathlib.Core.List.{List}
 use lib.ListN.{get_or}
 use Rattle.laws.specs.Slots.{first_of}
 use Rattle.reply.specs.declared.Refusal.{Refusal}
-use Rattle.reply.specs.declared.Checked.{Checked}
-use Rattle.reply.specs.declared.Checked.TheVariants.{Passed, Refused}
 use Rattle.form.specs.Form.{checks}
 use Rattle.form.specs.Line.{ranged, listed}
 use Rattle.form.specs.Sheet.{sheet_checked}
@@ -23,7 +23,7 @@ use Rattle.run.specs.Run.{fire, firing, no_firing, run_card, order_card}
 
 -- ---- a firing
 module _ (transitions : ℕ) (f : Firing) (line : ℕ) where
-  pub wait_fails : {r : Refusal} → ranged 0 10000000 f.wait line ≡ Refused r → Refused r ≡ (firing transitions).check f line
+  pub wait_fails : {r : Refusal} → ranged 0 10000000 f.wait line ≡ Err r → Err r ≡ (firing transitions).check f line
   wait_fails e = rw e
 
   pub fire_decides : ranged 0 10000000 f.wait line ≡ Passed → listed transitions f.fire (line + 1) ≡ (firing transitions).check f line
@@ -45,15 +45,15 @@ module _ (transitions : ℕ) {count i : ℕ} where
 
 -- ---- a run
 module _ (own transitions : ℕ) (run : Run) where
-  pub sheet_fails : {r : Refusal} → sheet_checked own run.sheet 1 ≡ Refused r → Refused r ≡ (run_card own transitions).check run 1
+  pub sheet_fails : {r : Refusal} → sheet_checked own run.sheet 1 ≡ Err r → Err r ≡ (run_card own transitions).check run 1
   sheet_fails e = rw e
 
   module _ (h : sheet_checked own run.sheet 1 ≡ Passed) where
-    pub denominator_fails : {r : Refusal} → ranged 1 1000 run.denominator 3 ≡ Refused r → Refused r ≡ (run_card own transitions).check run 1
+    pub denominator_fails : {r : Refusal} → ranged 1 1000 run.denominator 3 ≡ Err r → Err r ≡ (run_card own transitions).check run 1
     denominator_fails e = rw (h, e)
 
     module _ (d : ranged 1 1000 run.denominator 3 ≡ Passed) where
-      pub count_fails : {r : Refusal} → ranged 0 64 run.count 4 ≡ Refused r → Refused r ≡ (run_card own transitions).check run 1
+      pub count_fails : {r : Refusal} → ranged 0 64 run.count 4 ≡ Err r → Err r ≡ (run_card own transitions).check run 1
       count_fails e = rw (h, d, e)
 
       module _ (n : ranged 0 64 run.count 4 ≡ Passed) where
@@ -65,7 +65,7 @@ module _ (own transitions : ℕ) (run : Run) where
         all_count : min run.count 64 ≡ run.count
         all_count = min-eq_left (ranged_within 0 64 run.count 4 n).1
 
-        pub firings_fail : {r : Refusal} → firings_checked ≡ Refused r → Refused r ≡ (run_card own transitions).check run 1
+        pub firings_fail : {r : Refusal} → firings_checked ≡ Err r → Err r ≡ (run_card own transitions).check run 1
         firings_fail e = rw (h, d, n, all_count, e)
 
         pub rest_decides : firings_checked ≡ Passed → ranged 0 10000000 run.rest (5 + 2 * run.count) ≡ (run_card own transitions).check run 1
@@ -73,11 +73,11 @@ module _ (own transitions : ℕ) (run : Run) where
 
 -- ---- an order
 module _ (own transitions : ℕ) (order : Order) where
-  pub order_sheet_fails : {r : Refusal} → sheet_checked own order.sheet 1 ≡ Refused r → Refused r ≡ (order_card own transitions).check order 1
+  pub order_sheet_fails : {r : Refusal} → sheet_checked own order.sheet 1 ≡ Err r → Err r ≡ (order_card own transitions).check order 1
   order_sheet_fails e = rw e
 
   module _ (h : sheet_checked own order.sheet 1 ≡ Passed) where
-    pub order_count_fails : {r : Refusal} → ranged 0 64 order.count 3 ≡ Refused r → Refused r ≡ (order_card own transitions).check order 1
+    pub order_count_fails : {r : Refusal} → ranged 0 64 order.count 3 ≡ Err r → Err r ≡ (order_card own transitions).check order 1
     order_count_fails e = rw (h, e)
 
     pub fires_decide : ranged 0 64 order.count 3 ≡ Passed

@@ -1,11 +1,11 @@
 -- The card of a run and of an order that pass fits into the buffer of its writer, and then its text stands at the front of it.
+use Rattle.reply.specs.Respond.{Passed}
 use Prim.Native.Nat.{ℕ, ◌≤◌}
 use native.Mathlib.Omega.{arith}
 use mathlib.Core.Path.{◌≡◌, subst}
 use mathlib.Core.List.{List}
 use lib.ListN.{length}
 use Rattle.laws.specs.Writing.{Puts, wrote_puts, Wrote}
-use Rattle.reply.specs.declared.Checked.TheVariants.{Passed}
 use Rattle.net.specs.declared.Net.{Net}
 use Rattle.run.specs.declared.Run.{Run}
 use Rattle.run.specs.declared.Order.{Order}

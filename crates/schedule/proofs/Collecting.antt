@@ -1,19 +1,20 @@
 -- The loop over an order's firings: the slots passed hold their windows, and the firings that are left come to the verdict and the windows that the whole
 -- order has left. A step at instants that count firings, within the interval that every clock is within, is judged by its tokens alone.
+use Rattle.reply.specs.Respond.{Checked, Passed}
+use Rattle.std.specs.Prelude.{Ok, Err}
 use Prim.Native.Nat.{ℕ, ◌+◌, ◌-◌, ◌≤◌, ◌<◌, min}
 use native.Mathlib.Nat.{mul-zero, min-le_right}
 use native.Mathlib.Numerals.{add-one}
 use native.Mathlib.Omega.{arith}
-use mathlib.Core.Path.{◌≡◌, refl, sym, ap, ◌∙◌}
+use mathlib.Core.Path.{◌≡◌, refl, sym, ap, ◌∙◌, subst}
 use mathlib.Core.Bool.{true, cond}
 use mathlib.Core.List.{List, ◌∷◌}
-use lib.ListN.{length, get_or, set, take, drop, replicate, length-replicate, drop_of_length-le}
-use lib.Seq.{drop-cons, take_all}
+use lib.ListN.{length, get_or, set, take, drop, replicate, length-replicate, drop_of_length-le, get_or-eq_default}
+use Rattle.std.proofs.lemmas.List.{set-get_or}
+use lib.Seq.{drop-cons, take_all, length-take-le}
 use Rattle.laws.specs.Arrays.{length_filled}
-use Rattle.laws.specs.Slots.{pad_to, length_first, pad_next, first_next}
+use Rattle.laws.specs.Slots.{pad_to, length_first, pad_next, first_next, get_d_padded}
 use Rattle.reply.specs.declared.Refusal.{Refusal}
-use Rattle.reply.specs.declared.Checked.{Checked}
-use Rattle.reply.specs.declared.Checked.TheVariants.{Passed, Refused}
 use Rattle.net.specs.declared.Net.{Net}
 use Rattle.net.specs.Net.{no_transition}
 use Rattle.run.specs.declared.Order.{Order}
@@ -49,7 +50,7 @@ free_stepped net restarts m since t n = rw (free_judged net 1 (n - get_or since 
 -- what a step says is its judgement, and one that passes has moved the tokens and the restarts
 settled_says : (c : Checked) (m since m' since' : List ℕ) → (settled c m since m' since').checked ≡ c
 settled_says Passed m since m' since' = refl
-settled_says (Refused r) m since m' since' = refl
+settled_says (Err r) m since m' since' = refl
 
 settled_passed : (c : Checked) (m since m' since' : List ℕ) → c ≡ Passed
     → settled c m since m' since' ≡ record { checked = Passed; marking = m'; since = since' }
@@ -89,7 +90,7 @@ module _ (net : Net) (o : Order) where
   many = length_windows net rule fires (start_state net) ∙ few
 
   module _ {windows : List Window} {m since : List ℕ} {i : ℕ} (s : Collecting windows m since i) where
-    pub collecting_done : min o.count 64 ≤ i → record { checked = Passed; windows = windows } ≡ collected net o
+    pub collecting_done : min o.count 64 ≤ i → Ok windows ≡ collected net o
     unfolding collected tokens
     collecting_done l =
         let e : tokens net fires (start_marking net) 0 ≡ Passed = s.verdict ∙ rw (drop_of_length-le fires {i = i} (omega (arith, few))) refl in
@@ -117,12 +118,12 @@ module _ (net : Net) (o : Order) where
         judged : p.checked ≡ judgement
         judged = rw (e, free_stepped net rule m since t (i + 1)) (settled_says judgement m since (after (arcs_of net) m t) later)
 
-        pub collecting_refused : {r : Refusal} → p.checked ≡ Refused r → record { checked = p.checked; windows = replicate 64 no_window } ≡ collected net o
+        pub collecting_refused : {r : Refusal} → p.checked ≡ Err r → Err r ≡ collected net o
         unfolding collected tokens
         collecting_refused {r} q =
-            let c : judgement ≡ Refused r = sym judged ∙ q in
-            let v : tokens net fires (start_marking net) 0 ≡ Refused r = s.verdict ∙ rw (next, c) refl in
-            rw (v, q) refl
+            let c : judgement ≡ Err r = sym judged ∙ q in
+            let v : tokens net fires (start_marking net) 0 ≡ Err r = s.verdict ∙ rw (next, c) refl in
+            rw v refl
 
         module _ (q : p.checked ≡ Passed) where
           passed : judgement ≡ Passed
@@ -147,3 +148,13 @@ module _ (net : Net) (o : Order) where
                     (pad_next 64 no_window all i (omega (arith, many)) (omega (arith, many, min-le_right o.count 64)));
                 clocks = rw moved (length_filled (λ u. cond (rule m t u) (i + 1) (get_or since u 0)) since (arcs_of net).transitions ∙ s.clocks);
               }
+
+          -- a firing of no transition leaves the slot as it was
+          pub collecting_none : no_window ≡ window_at net (state_after m since i) t → Collecting windows p.marking p.since (i + 1)
+          collecting_none h =
+              let empty : get_or windows i no_window ≡ no_window =
+              rw s.stored
+              (get_d_padded (take i all) (64 - length (take i all)) no_window i
+              ∙ get_or-eq_default (take i all) no_window {n = i} (omega (arith, length-take-le i all (omega (arith, many))))) in
+              let same : set windows i no_window ≡ windows = ap (set windows i) (sym empty) ∙ set-get_or windows i no_window in
+              subst (λ (ws : List Window). Collecting ws p.marking p.since (i + 1)) same (collecting_more h)

@@ -1,15 +1,14 @@
 -- The loops over the firings of a run that is rounded and of a timetable: the slots passed hold their firings. Since each wait is a number of 32 bits, the
--- sum of the waits stays far below 64 bits, and rounded down no wait grows.
+-- sum of the waits stays far below 64 bits.
 use Prim.Native.Nat.{ℕ, zero, suc, ◌+◌, ◌*◌, ◌-◌, ◌/◌, ◌≤◌, ◌<◌, min}
-use native.Mathlib.Nat.{add-zero, zero-add, add_assoc, le_of_suc-le-suc, not-suc-le-zero, div-zero, min-le_right}
+use native.Mathlib.Nat.{add-zero, zero-add, add_assoc, le_of_suc-le-suc, not-suc-le-zero, min-le_right}
 use native.Mathlib.Numerals.{add-one}
 use native.Mathlib.Omega.{arith}
 use mathlib.Core.Path.{◌≡◌, refl, sym, ap, ◌∙◌}
 use mathlib.Core.List.{List, [], ◌∷◌}
 use lib.ListN.{length, get_or, set, take, replicate}
-use lib.Seq.{take_all}
+use lib.Seq.{take_all, length-take-le, get_or-take}
 use Rattle.laws.specs.Arrays.{Filling, fill_done}
-use Rattle.laws.specs.Division.{div_le, div_sum_le}
 use Rattle.laws.specs.Slots.{pad_to, pad_next}
 use Rattle.run.specs.declared.Firing.{Firing}
 use Rattle.run.specs.declared.Run.{Run}
@@ -24,14 +23,9 @@ use Rattle.timing.proofs.Instants.{instants_next, length_rounded}
 use Rattle.timing.proofs.Rounded.{zip_entry, rounded_sizes, count_rounded}
 use Rattle.schedule.specs.Timetable.{timed_firing, timed_run}
 
--- rounded down, no wait grows, whatever the parts of a tick
-pub whole_up : (D s w : ℕ) → s / D ≤ (s + w) / D
-whole_up zero s w = rw (div-zero s) (omega arith)
-whole_up (suc D) s w = div_le (suc D) (omega arith) (omega arith)
-
-pub whole_short : (D s w : ℕ) → (s + w) / D - s / D ≤ w
-whole_short zero s w = rw (div-zero s, div-zero (s + w)) (omega arith)
-whole_short (suc D) s w = omega (arith, div_sum_le (suc D) (omega arith) s w)
+-- the slots before n are those of the whole array
+pub in_front : {A : Type 0} (n : ℕ) (l : List A) (d : A) (i : ℕ) → n ≤ length l → i < length (take n l) → (i < n) × (get_or (take n l) i d ≡ get_or l i d)
+in_front n l d i h b = let c : i < n = omega (arith, length-take-le n l h) in (c, get_or-take n l i d c)
 
 -- ---- entries
 rounded_entry : (D s : ℕ) (ws : List ℕ) (i : ℕ) → i < length ws
@@ -89,9 +83,6 @@ module _ (r : Run) where
             stored = rw (h.stored, e, ← entry_at) (pad_next 64 no_firing gs i (omega (arith, count_rounded r))
                 (omega (arith, count_rounded r, min-le_right r.count 64)));
           }
-
-    pub rounding_small : s ≤ 64 * 4294967295
-    rounding_small = omega (arith, h.soon, h.within, min-le_right r.count 64)
 
     pub rounding_done : {n w : ℕ} → n ≡ min r.count 64 → n ≤ i → w ≡ (s + r.rest) / D - s / D
         → record { sheet = r.sheet; memory = r.memory; denominator = 1; count = n; firings = firings; rest = w } ≡ rounded_run r

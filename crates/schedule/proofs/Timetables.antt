@@ -1,11 +1,12 @@
 -- The windows of an order are measured from earlier firings, so that what is found for them as they stand in an array is the verdict on the order; and where
 -- no instant is too large for a run, the run is the one of the earliest schedule.
+use Rattle.reply.specs.Respond.{Checked, Passed}
 use Prim.Native.Nat.{ℕ, suc, ◌+◌, ◌-◌, ◌≤◌, ◌<◌, min}
 use native.Mathlib.Nat.{min-le_right}
 use native.Mathlib.Numerals.{add-one}
 use native.Mathlib.Omega.{arith}
 use native.Mathlib.Decide.{dec_lt}
-use mathlib.Core.Path.{◌≡◌, refl, sym, ap, ◌∙◌, subst}
+use mathlib.Core.Path.{◌≡◌, refl, sym, ap, ◌∙◌}
 use mathlib.Core.List.{List}
 use lib.ListN.{length, get_or, replicate, length-replicate, get_or-replicate, get_or-eq_default}
 use lib.Seq.{ext_get_or}
@@ -13,11 +14,10 @@ use Rattle.laws.specs.Arrays.{filled, length_filled, filled_at, filled_past, fil
 use Rattle.laws.specs.Slots.{pad_to, length_first, length_pad, get_d_first, get_d_padded}
 use Rattle.reply.specs.declared.Refusal.{Refusal}
 use Rattle.reply.specs.declared.Refusal.TheVariants.{Untimable}
-use Rattle.reply.specs.declared.Checked.{Checked}
-use Rattle.reply.specs.declared.Checked.TheVariants.{Passed, Refused}
 use Rattle.net.specs.declared.Net.{Net}
 use Rattle.run.specs.declared.Firing.{Firing}
 use Rattle.run.specs.declared.Order.{Order}
+use Rattle.run.specs.declared.Run.{Run}
 use Rattle.run.specs.Run.{no_firing, fires_of}
 use Rattle.firing.specs.Semantics.{arcs_of, Restart, transition_at, rule_of, start_marking}
 use Rattle.firing.specs.Tokens.{tokens}
@@ -33,11 +33,10 @@ use Rattle.timing.proofs.Order.{windows_wellformed}
 use Rattle.timing.proofs.Instants.{length_between, between_entry, wait_le}
 use Rattle.timing.proofs.Scheduled.{schedule_refused, schedule_passed, verdict_right}
 use Rattle.timing.proofs.Rounded.{zip_entry, length_zip, fires_few, scheduled_within}
-use Rattle.sweep.specs.declared.Earliest.{Earliest}
+use Rattle.std.specs.Prelude.{Result, Ok, Err}
 use Rattle.sweep.specs.Arrays.{earliest_by, clipped_at, earliest_of}
-use Rattle.schedule.specs.declared.Collected.{Collected}
 use Rattle.schedule.specs.Collect.{collected}
-use Rattle.schedule.specs.Timetable.{timed_firing, timed_run, no_run, timetabled_by, timetabled_after, timetabled, scheduled_run}
+use Rattle.schedule.specs.Timetable.{timed_firing, timed_run, timetabled_by, timetabled_after, timetabled, scheduled_run}
 
 -- ---- the verdict
 module _ (net : Net) (o : Order) where
@@ -74,17 +73,9 @@ module _ (net : Net) (o : Order) where
       (prefixes_right 1 W n (windows_wellformed net rule order))
 
   -- what is found for the windows that are collected
-  collected_earliest : tokens net order (start_marking net) 0 ≡ Passed → earliest_of (collected net o).windows o.count ≡ earliest_by (verdict_of net rule order)
-  unfolding earliest_of collected
-  collected_earliest e = rw (e, counted) (ap earliest_by same_verdict)
-
-  -- no windows at all are met
-  never_at_none : verdict_of net rule order ≡ fails_at 0 → ⊥
-  unfolding verdict_of
-  never_at_none e =
-      let W = windows all in
-      let f = subst (Judges 1 W (length order)) e (prefixes_right 1 W (length order) (windows_wellformed net rule order)) in
-      f.fails_at_lem (λ i. 0) (record { starts = refl; each = λ i l. absurd (omega arith) })
+  collected_earliest : earliest_of (pad_to 64 no_window all) o.count ≡ earliest_by (verdict_of net rule order)
+  unfolding earliest_of
+  collected_earliest = rw counted (ap earliest_by same_verdict)
 
 -- ---- the run
 padded_run : (o : Order) (x : List ℕ) → timed_run o (pad_to 65 0 x) ≡ timed_run o x
@@ -93,42 +84,41 @@ padded_run o x =
     let p = get_d_padded x (65 - length x) 0 in
     rw (filled_same (timed_firing o (pad_to 65 0 x)) (timed_firing o x) (replicate 64 no_firing) (min o.count 64) (λ k l. rw (p k, p (k + 1)) refl)) refl
 
-met_by_lem : (o : Order) (v : Verdict) → (v ≡ fails_at 0 → ⊥) → (earliest_by v).failed ≡ 0
-    → record { checked = Passed; run = timed_run o (earliest_by v).instants } ≡ timetabled_by o v
-met_by_lem o (met_by x) n e = ap (λ r. record { checked = Passed; run = r }) (padded_run o x)
-met_by_lem o (fails_at k) n e = absurd (n (ap fails_at e))
+-- a run as what is told
+abbrev as_timetable : Run → Result Run Refusal
+as_timetable run = Ok run
 
-fails_by : (o : Order) (v : Verdict) → ((earliest_by v).failed ≡ 0 → ⊥)
-    → record { checked = Refused (Untimable (earliest_by v).failed); run = no_run o.memory } ≡ timetabled_by o v
-fails_by o (met_by x) n = absurd (n refl)
-fails_by o (fails_at k) n = refl
+-- the timetable at the instants that are found, or the refusal
+abbrev pub answered : Order → Result (List ℕ) ℕ → Result Run Refusal
+answered o (Ok x) = Ok (timed_run o x)
+answered o (Err k) = Err (Untimable k)
+
+answered_by : (o : Order) (v : Verdict) → answered o (earliest_by v) ≡ timetabled_by o v
+answered_by o (met_by x) = ap as_timetable (padded_run o x)
+answered_by o (fails_at k) = refl
 
 module _ (net : Net) (o : Order) where
   -- the tokens forbid the order
-  pub timetabled_refused : {c : Checked} {r : Refusal} → c ≡ (collected net o).checked → c ≡ Refused r
-      → record { checked = c; run = no_run o.memory } ≡ timetabled net o
+  pub timetabled_refused : {r : Refusal} → collected net o ≡ Err r → Err r ≡ timetabled net o
   unfolding timetabled collected
-  timetabled_refused {c} {r} p q =
-      let e : tokens net (fires_of o) (start_marking net) 0 ≡ Refused r = sym p ∙ q in
-      rw (e, q) refl
+  timetabled_refused {r} q = go (tokens net (fires_of o) (start_marking net) 0) refl
+    where
+      go : (c : Checked) → tokens net (fires_of o) (start_marking net) 0 ≡ c → Err r ≡ timetabled net o
+      go Passed e = let h = rw e at q in let z : ◌≡◌ {A = ℕ} 0 1 = cc in absurd (omega arith)
+      go (Err x) e = let h = rw e at q in let same : x ≡ r = cc in rw (e, same) refl
 
-  module _ {w : Collected} {e : Earliest} (p : w ≡ collected net o) (a : w.checked ≡ Passed) (q : e ≡ earliest_of w.windows o.count) where
-    passed : tokens net (fires_of o) (start_marking net) 0 ≡ Passed
-    unfolding collected
-    passed = rw p at a
-
-    found : e ≡ earliest_by (verdict_of net (rule net o) (fires_of o))
-    found = q ∙ rw p (collected_earliest net o passed)
-
-    pub timetabled_fails : (e.failed ≡ 0 → ⊥) → record { checked = Refused (Untimable e.failed); run = no_run o.memory } ≡ timetabled net o
-    unfolding timetabled
-    timetabled_fails n = rw (passed, found) (fails_by o (verdict_of net (rule net o) (fires_of o)) (λ z. n (ap (λ (r : Earliest). r.failed) found ∙ z)))
-
-    pub timetabled_met : e.failed ≡ 0 → record { checked = Passed; run = timed_run o e.instants } ≡ timetabled net o
-    unfolding timetabled
-    timetabled_met z =
-        rw (passed, found)
-        (met_by_lem o (verdict_of net (rule net o) (fires_of o)) (never_at_none net o) (sym (ap (λ (r : Earliest). r.failed) found) ∙ z))
+  -- the tokens allow the order
+  pub timetabled_found : {ws : List Window} {e : Result (List ℕ) ℕ} → collected net o ≡ Ok ws → e ≡ earliest_of ws o.count → answered o e ≡ timetabled net o
+  unfolding timetabled collected
+  timetabled_found {ws} {e} p q = go (tokens net (fires_of o) (start_marking net) 0) refl
+    where
+      go : (c : Checked) → tokens net (fires_of o) (start_marking net) 0 ≡ c → answered o e ≡ timetabled net o
+      go Passed h =
+          let k = rw h at p in
+          let same : pad_to 64 no_window (windows_of net (rule net o) (fires_of o)) ≡ ws = cc in
+          let found : e ≡ earliest_by (verdict_of net (rule net o) (fires_of o)) = q ∙ rw (← same) (collected_earliest net o) in
+          rw (h, found) (answered_by o (verdict_of net (rule net o) (fires_of o)))
+      go (Err x) h = let k = rw h at p in let z : ◌≡◌ {A = ℕ} 0 1 = cc in absurd (omega arith)
 
 -- ---- the run of instants that are not too large is that of the waits between them
 module _ (o : Order) (x : List ℕ) (size : length x ≡ suc (length (fires_of o))) (small : (i : ℕ) → get_or x (suc i) 0 - get_or x i 0 ≤ 4294967295) where
@@ -195,7 +185,7 @@ module _ (net : Net) (o : Order) (h : (t : ℕ) → t < (arcs_of net).transition
       → Judges 1 (windows (windows_of net (rule net o) (fires_of o))) (length (fires_of o)) v → timetabled_by o v ≡ scheduled_run o (scheduled_by v)
   by_verdict e (met_by x) q j =
       let timely = schedule_passed net (rule net o) (fires_of o) e ∙ ap scheduled_by q in
-      ap (λ r. record { checked = Passed; run = r }) (timed_scheduled o x j.size (waits_small x j.size timely))
+      ap as_timetable (timed_scheduled o x j.size (waits_small x j.size timely))
   by_verdict e (fails_at k) q j = refl
 
   pub timetabled_scheduled : timetabled net o ≡ scheduled_run o (schedule net (rule net o) (fires_of o))
@@ -207,4 +197,4 @@ module _ (net : Net) (o : Order) (h : (t : ℕ) → t < (arcs_of net).transition
       go Passed e =
           by_verdict e (verdict_of net (rule net o) (fires_of o)) refl (verdict_right net (rule net o) (fires_of o))
           ∙ ap (scheduled_run o) (sym (schedule_passed net (rule net o) (fires_of o) e))
-      go (Refused r) e = ap (scheduled_run o) (sym (schedule_refused net (rule net o) (fires_of o) r e))
+      go (Err r) e = ap (scheduled_run o) (sym (schedule_refused net (rule net o) (fires_of o) r e))

@@ -2,36 +2,21 @@
 #![tactic(auto)]
 
 ghost use Rattle.std.specs.Prelude.{◌≡◌, ◌+◌, ◌*◌, ◌-◌, ◌/◌, ◌≤◌, min};
-ghost use Rattle.net.specs.Net.{no_transition};
 ghost use Rattle.timing.specs.Rounding.{rounded_run};
 ghost use Rattle.schedule.specs.Collect.{collected};
-ghost use Rattle.schedule.specs.Timetable.{gap_of, no_run, timed_run, timetabled};
+ghost use Rattle.schedule.specs.Timetable.{gap_of, timed_run, timetabled};
 
 use firing::Attempt;
-use net::{Latest, Net, Transition};
-use reply::{Checked, Refusal};
-use run::{Firing, Memory, Order, Run};
+use net::{Net, Transition};
+use reply::Refusal;
+use run::{Firing, Order, Run};
 use steps::Terms;
 use timing::Window;
-
-// What the tokens say of an order, and the window of each firing; no window where they forbid it.
-#[derive(Clone, Copy)]
-struct Collected {
-    checked: Checked,
-    windows: [Window; 64],
-}
-
-// A timetable, or why there is none.
-#[derive(Clone, Copy)]
-pub struct Timetabled {
-    pub checked: Checked,
-    pub run: Run,
-}
 
 // An interval that every clock is within.
 const FREE: Transition = Transition {
     earliest: 0,
-    latest: Latest::Unbounded,
+    latest: None,
 };
 
 // What stands for a window that is none.
@@ -43,27 +28,8 @@ const NO_WINDOW: Window = Window {
 // What stands for a firing that is none.
 const NO_FIRING: Firing = Firing { wait: 0, fire: 0 };
 
-// How many firings count.
-fn counted(count: usize) -> usize
-    ensures { result ≡ min count 64 }
-{
-    if count < 64 { count } else { 64 }
-}
-
-// Firing number n, of t, at instant n, which no interval forbids.
-fn free(t: usize, n: usize) -> Attempt
-    ensures { result ≡ record { t = t; interval = no_transition; instant = n; number = n } }
-{
-    Attempt {
-        t,
-        interval: FREE,
-        instant: n as u64,
-        number: n,
-    }
-}
-
 // What the tokens say of an order, and the window of each firing. Instants count firings, and every clock is in time.
-fn collect(net: Net, order: Order) -> Collected
+fn collect(net: Net, order: Order) -> Result<[Window; 64], Refusal>
     ensures { result ≡ collected net order }
 {
     let terms = Terms {
@@ -72,43 +38,43 @@ fn collect(net: Net, order: Order) -> Collected
         memory: order.memory,
         denominator: 1,
     };
-    let count = counted(order.count);
+    let count = order.count.min(64);
     let mut windows = [NO_WINDOW; 64];
     let mut marking = steps::start_marking(net.start, net.places);
     let mut since = [0u64; 32];
-    let mut i: usize = 0;
-    while i < count {
-        let t = order.fires[i] as usize;
-        let w = if t < 32 {
-            Window {
+    for (i, fire) in order.fires[..count].iter().enumerate() {
+        let t = *fire as usize;
+        if t < 32 {
+            windows[i] = Window {
                 origin: since[t] as usize,
                 interval: net.table[t],
-            }
-        } else {
-            NO_WINDOW
-        };
-        windows[i] = w;
-        i += 1;
-        let a = free(t, i);
-        let c = steps::step(&net.take, &net.give, terms, a, &mut marking, &mut since);
-        let Checked::Passed = c else {
-            return Collected {
-                checked: c,
-                windows: [NO_WINDOW; 64],
             };
+        }
+        // No interval forbids this attempt.
+        let number = i + 1;
+        let attempt = Attempt {
+            t,
+            interval: FREE,
+            instant: number as u64,
+            number,
         };
+        steps::step(
+            &net.take,
+            &net.give,
+            terms,
+            attempt,
+            &mut marking,
+            &mut since,
+        )?;
     }
-    Collected {
-        checked: Checked::Passed,
-        windows,
-    }
+    Ok(windows)
 }
 
 // The whole ticks of a number of parts, d to a tick; none where d is 0.
 fn whole(parts: u64, d: u32) -> u64
     ensures { result ≡ parts / d }
 {
-    if d == 0 { 0 } else { parts / d as u64 }
+    parts.checked_div(d as u64).unwrap_or(0)
 }
 
 // A wait from an instant, its ends rounded down to whole ticks.
@@ -125,23 +91,20 @@ fn whole_wait(instant: u64, wait: u32, d: u32) -> u32
 pub fn rounded_run(run: Run) -> Run
     ensures { result ≡ rounded_run run }
 {
-    let memory = run.memory;
-    let count = counted(run.count);
+    let count = run.count.min(64);
     let mut firings = [NO_FIRING; 64];
     let mut instant: u64 = 0;
-    let mut i: usize = 0;
-    while i < count {
-        let f = run.firings[i];
+    // Written by index: of what a zip with `iter_mut` writes, the proof knows nothing behind the loop. So too in `collect` and `timetable_run`.
+    for (i, firing) in run.firings[..count].iter().enumerate() {
         firings[i] = Firing {
-            wait: whole_wait(instant, f.wait, run.denominator),
-            fire: f.fire,
+            wait: whole_wait(instant, firing.wait, run.denominator),
+            fire: firing.fire,
         };
-        instant += f.wait as u64;
-        i += 1;
+        instant += firing.wait as u64;
     }
     Run {
         sheet: run.sheet,
-        memory,
+        memory: run.memory,
         denominator: 1,
         count,
         firings,
@@ -153,33 +116,24 @@ pub fn rounded_run(run: Run) -> Run
 fn gap(from: u64, to: u64) -> u32
     ensures { result ≡ gap_of from to }
 {
-    if to < from {
-        return 0;
-    }
-    if to - from < 4294967295 {
-        return (to - from) as u32;
-    }
-    4294967295
+    u32::try_from(to.saturating_sub(from)).unwrap_or(u32::MAX)
 }
 
 // The run of an order at given instants S0, S1, .., in whole ticks.
 fn timetable_run(order: Order, instants: [u64; 65]) -> Run
     ensures { result ≡ timed_run order instants }
 {
-    let memory = order.memory;
-    let count = counted(order.count);
+    let count = order.count.min(64);
     let mut firings = [NO_FIRING; 64];
-    let mut i: usize = 0;
-    while i < count {
+    for (i, fire) in order.fires[..count].iter().enumerate() {
         firings[i] = Firing {
             wait: gap(instants[i], instants[i + 1]),
-            fire: order.fires[i],
+            fire: *fire,
         };
-        i += 1;
     }
     Run {
         sheet: order.sheet,
-        memory,
+        memory: order.memory,
         denominator: 1,
         count,
         firings,
@@ -187,46 +141,13 @@ fn timetable_run(order: Order, instants: [u64; 65]) -> Run
     }
 }
 
-// What stands for a run where there is none.
-fn no_run(memory: Memory) -> Run
-    ensures { result ≡ no_run memory }
-{
-    Run {
-        sheet: 0,
-        memory,
-        denominator: 1,
-        count: 0,
-        firings: [NO_FIRING; 64],
-        rest: 0,
-    }
-}
-
 // The earliest timetable of an order on a net, or the refusal.
-pub fn timetable(net: Net, order: Order) -> Timetabled
+pub fn timetable(net: Net, order: Order) -> Result<Run, Refusal>
     ensures { result ≡ timetabled net order }
 {
-    let memory = order.memory;
-    let none = no_run(memory);
-    let w = collect(net, order);
-    let c = w.checked;
-    let Checked::Passed = c else {
-        return Timetabled {
-            checked: c,
-            run: none,
-        };
-    };
-    let windows = w.windows;
-    let e = sweep::find_earliest(windows, order.count);
-    if e.failed != 0 {
-        return Timetabled {
-            checked: Checked::Refused(Refusal::Untimable(e.failed)),
-            run: none,
-        };
-    }
-    let instants = e.instants;
-    let run = timetable_run(order, instants);
-    Timetabled {
-        checked: Checked::Passed,
-        run,
+    let windows = collect(net, order)?;
+    match sweep::find_earliest(windows, order.count) {
+        Ok(instants) => Ok(timetable_run(order, instants)),
+        Err(k) => Err(Refusal::Untimable(k)),
     }
 }

@@ -8,8 +8,7 @@ use lib.ListN.{length, drop}
 use borrow.Author.Tests.{le-ltb}
 use Rattle.laws.specs.Writing.{Puts, wrote_puts}
 use Rattle.reply.specs.declared.Refusal.TheVariants.{Malformed}
-use Rattle.reply.specs.declared.Reply.{Reply}
-use Rattle.reply.specs.Respond.{Outcome, answer, refusal, reply_to, output_of, Responded}
+use Rattle.reply.specs.Respond.{Outcome, answer, refusal, reply_to, output_of, Responded, Reply}
 use Rattle.open_run.specs.declared.OpenRun.{OpenRun}
 use Rattle.open_run.specs.declared.Entered.{Entered}
 use Rattle.open_run.specs.declared.Closing.{Closing}

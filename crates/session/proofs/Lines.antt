@@ -11,10 +11,8 @@ use Rattle.laws.specs.Tests.{same_numbers}
 use Rattle.reply.specs.declared.Refusal.{Refusal}
 use Rattle.reply.specs.declared.Refusal.TheVariants.{Malformed}
 use Rattle.text.specs.Key.{bytes, begins_with}
-use Rattle.form.specs.declared.NumberLine.TheVariants.{Value, Refused}
-use Rattle.form.specs.Form.{Found, found, refused, Form, keyed, front, ended}
+use Rattle.form.specs.Form.{Found, found, refused, Form, keyed, front}
 use Rattle.form.specs.Line.{ranged, number}
-use Rattle.form.specs.Code.{number_line}
 use Rattle.session.specs.declared.Entry.{Entry}
 use Rattle.session.specs.declared.Entry.TheVariants.{Wait, Fire, Rest, State, Timetable, NoEntry}
 use Rattle.session.specs.Session.{number_behind, entry_if, entry_of}
@@ -24,30 +22,15 @@ module _ (key s : List ℕ) where
   abbrev form : Form ℕ
   form = keyed key (number (ranged 0 999999999))
 
-  whole_refused : (f : Found ℕ) {e : Refusal} → number_line f ≡ Refused e → number_line (ended form s f) ≡ Refused e
-  whole_refused (found n next) q = let z : ◌≡◌ {A = ℕ} 0 1 = cc in absurd (omega arith)
-  whole_refused (refused r) q = q
+  pub behind_refused : {e : Refusal} → front form s ≡ refused e → number_behind key s ≡ refused e
+  behind_refused e = rw e refl
 
-  whole_ended : (f : Found ℕ) {v end : ℕ} → number_line f ≡ Value v end → length s ≤ end → number_line (ended form s f) ≡ Value v end
-  whole_ended (found n next) {v} {end} q h =
-      let same : next ≡ end = cc in
-      rw (le-leb (length s) next (rw same h)) q
-  whole_ended (refused r) q h = let z : ◌≡◌ {A = ℕ} 0 1 = cc in absurd (omega arith)
+  module _ {v end : ℕ} (e : front form s ≡ found v end) where
+    pub behind_ended : length s ≤ end → number_behind key s ≡ found v end
+    behind_ended h = rw (e, le-leb (length s) end h) refl
 
-  whole_more : (f : Found ℕ) {v end : ℕ} → number_line f ≡ Value v end → end < length s → number_line (ended form s f) ≡ Refused (Malformed 2)
-  whole_more (found n next) {v} {end} q h =
-      let same : next ≡ end = cc in
-      rw (lt-leb (length s) next (rw same h)) refl
-  whole_more (refused r) q h = let z : ◌≡◌ {A = ℕ} 0 1 = cc in absurd (omega arith)
-
-  pub behind_refused : {e : Refusal} → number_line (front form s) ≡ Refused e → number_line (number_behind key s) ≡ Refused e
-  behind_refused = whole_refused (front form s)
-
-  pub behind_ended : {v end : ℕ} → number_line (front form s) ≡ Value v end → length s ≤ end → number_line (number_behind key s) ≡ Value v end
-  behind_ended = whole_ended (front form s)
-
-  pub behind_more : {v end : ℕ} → number_line (front form s) ≡ Value v end → end < length s → number_line (number_behind key s) ≡ Refused (Malformed 2)
-  behind_more = whole_more (front form s)
+    pub behind_more : end < length s → number_behind key s ≡ refused (Malformed 2)
+    behind_more h = rw (e, lt-leb (length s) end h) refl
 
 -- ---- a word that is as long as the line, and begins it
 pub begins_same : (s word : List ℕ) → length s ≡ length word → begins_with word s ≡ same_numbers s word
@@ -58,17 +41,15 @@ begins_same (a ∷ s) [] e = absurd (omega arith)
 begins_same (a ∷ s) (b ∷ word) e = ap (λ (t : Bool). eqb a b && t) (begins_same s word (omega arith))
 
 -- ---- each key in turn
-if_number : (f : Found ℕ) (entry : ℕ → Entry) (other : Entry) {n next : ℕ} → number_line f ≡ Value n next → entry_if f entry other ≡ entry n
-if_number (found n next) entry other q = ap entry cc
-if_number (refused r) entry other q = let z : ◌≡◌ {A = ℕ} 0 1 = cc in absurd (omega arith)
+if_number : (f : Found ℕ) (entry : ℕ → Entry) (other : Entry) {n next : ℕ} → f ≡ found n next → entry_if f entry other ≡ entry n
+if_number f entry other q = rw q refl
 
-if_none : (f : Found ℕ) (entry : ℕ → Entry) (other : Entry) {e : Refusal} → number_line f ≡ Refused e → entry_if f entry other ≡ other
-if_none (found n next) entry other q = let z : ◌≡◌ {A = ℕ} 0 1 = cc in absurd (omega arith)
-if_none (refused r) entry other q = refl
+if_none : (f : Found ℕ) (entry : ℕ → Entry) (other : Entry) {e : Refusal} → f ≡ refused e → entry_if f entry other ≡ other
+if_none f entry other q = rw q refl
 
 -- no number stands behind a key
 abbrev pub NoNumber : List ℕ → List ℕ → Type 0
-NoNumber key s = (e : Refusal) × (number_line (number_behind key s) ≡ Refused e)
+NoNumber key s = (e : Refusal) × (number_behind key s ≡ refused e)
 
 module _ (s : List ℕ) where
   abbrev word : Entry
@@ -80,7 +61,7 @@ module _ (s : List ℕ) where
   abbrev fire : Entry
   fire = entry_if (number_behind (bytes "fire=") s) Fire rest
 
-  pub entry_wait : {n next : ℕ} → number_line (number_behind (bytes "wait=") s) ≡ Value n next → entry_of s ≡ Wait n
+  pub entry_wait : {n next : ℕ} → number_behind (bytes "wait=") s ≡ found n next → entry_of s ≡ Wait n
   unfolding entry_of
   entry_wait q = if_number (number_behind (bytes "wait=") s) Wait fire q
 
@@ -89,14 +70,14 @@ module _ (s : List ℕ) where
     unfolding entry_of
     past_wait = if_none (number_behind (bytes "wait=") s) Wait fire w.1
 
-    pub entry_fire : {n next : ℕ} → number_line (number_behind (bytes "fire=") s) ≡ Value n next → entry_of s ≡ Fire n
+    pub entry_fire : {n next : ℕ} → number_behind (bytes "fire=") s ≡ found n next → entry_of s ≡ Fire n
     entry_fire q = past_wait ∙ if_number (number_behind (bytes "fire=") s) Fire rest q
 
     module _ (t : NoNumber (bytes "fire=") s) where
       past_fire : entry_of s ≡ rest
       past_fire = past_wait ∙ if_none (number_behind (bytes "fire=") s) Fire rest t.1
 
-      pub entry_rest : {n next : ℕ} → number_line (number_behind (bytes "rest=") s) ≡ Value n next → entry_of s ≡ Rest n
+      pub entry_rest : {n next : ℕ} → number_behind (bytes "rest=") s ≡ found n next → entry_of s ≡ Rest n
       entry_rest q = past_fire ∙ if_number (number_behind (bytes "rest=") s) Rest word q
 
       pub entry_word : NoNumber (bytes "rest=") s → entry_of s ≡ word

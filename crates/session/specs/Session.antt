@@ -1,10 +1,8 @@
 -- A run entered by lines: each line, its byte 10 included, is a step, the closing or a call, and is answered by text.
-use Rattle.std.specs.Prelude.{ℕ, cond, List}
+use Rattle.std.specs.Prelude.{ℕ, cond, List, Err}
 use Rattle.laws.specs.Tests.{same_numbers}
 use Rattle.reply.specs.declared.Refusal.TheVariants.{Malformed}
-use Rattle.reply.specs.declared.Checked.{Checked}
-use Rattle.reply.specs.declared.Checked.TheVariants.{Passed, Refused}
-use Rattle.reply.specs.Respond.{Outcome, answer, refusal}
+use Rattle.reply.specs.Respond.{Outcome, answer, refusal, Checked, Passed}
 use Rattle.text.specs.Key.{bytes}
 use Rattle.form.specs.Form.{Found, found, refused, keyed, alone}
 use Rattle.form.specs.Line.{ranged, number}
@@ -34,7 +32,7 @@ entry_of s =
 -- ---- what is answered: `ok` for an accepted step, an answer as it is, and the two lines of a refusal
 abbrev pub told_text : Checked → List ℕ
 told_text Passed = bytes "ok\n"
-told_text (Refused e) = refusal_text e
+told_text (Err e) = refusal_text e
 
 abbrev pub shown_text : Outcome → List ℕ
 shown_text (answer text) = text

@@ -3,14 +3,14 @@
 
 ghost use Rattle.std.specs.Prelude.{◌≡◌, ◌++◌, length, drop};
 ghost use Rattle.laws.specs.Tests.{same_numbers};
-ghost use Rattle.form.specs.Code.{number_line};
+ghost use Rattle.laws.specs.Writing.{Puts};
 ghost use Rattle.console.specs.Printed.{refusal_text};
 ghost use Rattle.session.specs.Session.{number_behind, entry_of, told_text, line_text, line_leaves};
 ghost use Rattle.session.specs.Code.{shown_length, shown_output};
 
-use form::NumberLine;
 use open_run::{Entered, OpenRun};
-use reply::{Checked, Refusal, Reply};
+use reply::Refusal;
+use text::Writer;
 
 // What a line asks for: a step, the closing, a call, or nothing that there is.
 #[derive(Clone, Copy)]
@@ -30,20 +30,15 @@ pub struct Answered {
     pub run: OpenRun,
 }
 
-// The number behind a key, where that is the whole line.
-fn number_behind(line: &[u8], key: &[u8]) -> NumberLine
-    ensures { result ≡ number_line (number_behind key.now line.now) }
+// The number behind a key, where that is the whole line, and the position behind it.
+fn number_behind(line: &[u8], key: &[u8]) -> Result<(u32, usize), Refusal>
+    ensures { result ≡ number_behind key.now line.now }
 {
-    let n = form::number_line(line, 0, key, 0, 999999999, 1);
-    match n {
-        NumberLine::Refused(e) => NumberLine::Refused(e),
-        NumberLine::Value { value, next } => {
-            if next < line.len() {
-                return NumberLine::Refused(Refusal::Malformed(2));
-            }
-            NumberLine::Value { value, next }
-        }
+    let (value, next) = form::number_line(line, 0, key, 0, 999999999, 1)?;
+    if next < line.len() {
+        return Err(Refusal::Malformed(2));
     }
+    Ok((value, next))
 }
 
 // Whether a line is a word.
@@ -60,17 +55,14 @@ fn is_word(line: &[u8], word: &[u8]) -> bool
 pub fn read_entry(line: &[u8]) -> Entry
     ensures { result ≡ entry_of line.now }
 {
-    let w = number_behind(line, b"wait=");
-    if let NumberLine::Value { value, next: _ } = w {
-        return Entry::Wait(value);
+    if let Ok((parts, _)) = number_behind(line, b"wait=") {
+        return Entry::Wait(parts);
     }
-    let t = number_behind(line, b"fire=");
-    if let NumberLine::Value { value, next: _ } = t {
-        return Entry::Fire(value);
+    if let Ok((t, _)) = number_behind(line, b"fire=") {
+        return Entry::Fire(t);
     }
-    let r = number_behind(line, b"rest=");
-    if let NumberLine::Value { value, next: _ } = r {
-        return Entry::Rest(value);
+    if let Ok((parts, _)) = number_behind(line, b"rest=") {
+        return Entry::Rest(parts);
     }
     if is_word(line, b"state\n") {
         return Entry::State;
@@ -85,16 +77,25 @@ pub fn read_entry(line: &[u8]) -> Entry
 fn put_refused(e: Refusal, out: &mut [u8; 2048]) -> usize
     ensures { (result ≡ length (refusal_text e)) × (out.new ≡ refusal_text e ++ drop (length (refusal_text e)) out.old) }
 {
-    console::put_refusal(out, 0, e)
+    console::refusal_front(out, e)
+}
+
+// A word at the front of an output, and how many bytes it has.
+fn put_word(out: &mut [u8], word: &[u8]) -> usize
+    ensures { Puts out.old 0 word.now result out.new }
+{
+    let mut w = Writer::new(out);
+    w.put_bytes(word);
+    w.at
 }
 
 // What a step says, as the answer to its line.
-fn put_told(c: Checked, out: &mut [u8; 2048]) -> usize
+fn put_told(c: Result<(), Refusal>, out: &mut [u8; 2048]) -> usize
     ensures { (result ≡ length (told_text c)) × (out.new ≡ told_text c ++ drop (length (told_text c)) out.old) }
 {
     match c {
-        Checked::Refused(e) => put_refused(e, out),
-        Checked::Passed => text::put_bytes(out, 0, b"ok\n"),
+        Err(e) => put_refused(e, out),
+        Ok(()) => put_word(out, b"ok\n"),
     }
 }
 
@@ -103,19 +104,17 @@ fn told(e: Entered, out: &mut [u8; 2048]) -> Answered
     ensures { (result ≡ record { length = length (told_text e.checked); run = e.run })
         × (out.new ≡ told_text e.checked ++ drop (length (told_text e.checked)) out.old) }
 {
-    let c = e.checked;
-    let run = e.run;
-    let length = put_told(c, out);
-    Answered { length, run }
+    let length = put_told(e.checked, out);
+    Answered { length, run: e.run }
 }
 
 // What a call or the closing replied, its text in the output, and the record behind it, as the answer to its line.
-fn shown(r: Reply, run: OpenRun, out: &mut [u8; 2048]) -> Answered
+fn shown(r: Result<usize, Refusal>, run: OpenRun, out: &mut [u8; 2048]) -> Answered
     ensures { (result ≡ record { length = shown_length r; run = run }) × (out.new ≡ shown_output r out.old) }
 {
     match r {
-        Reply::Written(length) => Answered { length, run },
-        Reply::Refused(e) => {
+        Ok(length) => Answered { length, run },
+        Err(e) => {
             let length = put_refused(e, out);
             Answered { length, run }
         }
@@ -139,9 +138,7 @@ pub fn answer_line(run: OpenRun, n: usize, line: &[u8], out: &mut [u8; 2048]) ->
         }
         Entry::Rest(w) => {
             let c = entering::finish(run, w, out);
-            let reply = c.reply;
-            let left = c.run;
-            shown(reply, left, out)
+            shown(c.reply, c.run, out)
         }
         Entry::State => {
             let r = entering::state(run, out);

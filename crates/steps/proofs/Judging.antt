@@ -1,91 +1,67 @@
 -- What each way out of a step says: refused by 5, 7 or 6, or fired.
-use Rattle.std.proofs.Common.{◌≡◌, ℕ, ◌-◌, ◌<◌, true, false, List, get_or, sym, refl, ◌∙◌, arith}
-use native.Mathlib.Nat.{min-le_right}
+use Rattle.reply.specs.Respond.{Passed}
+use Rattle.std.specs.Prelude.{Err}
+use Rattle.std.proofs.Common.{◌≡◌, ℕ, ◌-◌, min, true, false, List, get_or, Some, None, sym, refl, ap, ◌∙◌}
 use Rattle.reply.specs.declared.Refusal.{Refusal}
 use Rattle.reply.specs.declared.Refusal.TheVariants.{NotEnabled, OutsideInterval, TooManyTokens}
-use Rattle.reply.specs.declared.Checked.TheVariants.{Passed, Refused}
 use Rattle.firing.specs.declared.Attempt.{Attempt}
 use Rattle.firing.specs.Semantics.{Arcs, enabled, looked_at, restarts_fired, rule_of}
 use Rattle.firing.specs.Replay.{timely, judged_by}
 use Rattle.firing.specs.Step.{Stepped, stepped}
-use Rattle.firing.proofs.Clocks.{enabled_listed}
+use Rattle.steps.specs.declared.Takes.{Takes}
 use Rattle.steps.specs.declared.Terms.{Terms}
-use Rattle.steps.specs.declared.Fire.{Fire}
 use Rattle.steps.specs.declared.Moved.{Moved}
-use Rattle.steps.specs.Code.{arcs_in, fire_in, arcs_by, Counted, Moves, renewed_by}
+use Rattle.steps.specs.Code.{arcs_in, moved, renewed_by}
+use Rattle.steps.proofs.Places.{moved_none, moved_some}
 use Rattle.steps.proofs.Restarts.{renewed_is}
 
--- the counts of a firing that was made from terms are within the arrays
-pub counted : (terms : Terms) (f : Attempt) {fire : Fire} → fire ≡ fire_in terms f → Counted fire
-counted terms f k = rw k (record { places = min-le_right terms.places 16; transitions = min-le_right terms.transitions 32 })
+module _ (terms : Terms) (take give : List ℕ) (f : Attempt) (m since : List ℕ)
+    (s : Takes) (w : s.weights.now ≡ take) (p : s.places ≡ min terms.places 16) (n : s.transitions ≡ min terms.transitions 32) where
+  -- the net, and the same as the code sees it
+  abbrev net : Arcs
+  net = arcs_in terms take give
 
--- what a step is asked
-pub record Asked : Type 0 where
-  pub take : List ℕ
-  pub give : List ℕ
-  pub terms : Terms
-  pub f : Attempt
-  pub m : List ℕ
-  pub since : List ℕ
+  abbrev seen : Arcs
+  seen = record { places = s.places; transitions = s.transitions; take = s.weights.now; give = give }
 
-module _ (q : Asked) {fire : Fire} (k : fire ≡ fire_in q.terms q.f) where
-  -- the net of the step, what it says, a refusal, and the clock
-  abbrev a : Arcs
-  a = arcs_in q.terms q.take q.give
+  same : seen ≡ net
+  same =
+      ap (λ (x : List ℕ). record { places = s.places; transitions = s.transitions; take = x; give = give }) w
+      ∙ ap (λ (x : ℕ). record { places = x; transitions = s.transitions; take = take; give = give }) p
+      ∙ ap (λ (x : ℕ). record { places = min terms.places 16; transitions = x; take = take; give = give }) n
 
+  -- what the step says, a refusal, and the clock
   abbrev says : Stepped → Type 0
-  says s = s ≡ stepped a (rule_of a q.terms.memory) q.terms.denominator q.f q.m q.since
+  says r = r ≡ stepped net (rule_of net terms.memory) terms.denominator f m since
 
   abbrev refused : Refusal → Stepped
-  refused r = record { checked = Refused r; marking = q.m; since = q.since }
+  refused r = record { checked = Err r; marking = m; since = since }
 
   abbrev clock : ℕ
-  clock = q.f.instant - get_or q.since q.f.t 0
+  clock = f.instant - get_or since f.t 0
 
-  -- whether t is enabled, as the code has it
-  abbrev Enabled : Type 0
-  Enabled = enabled (arcs_by fire q.take q.give) q.m fire.t ≡ true
-
-  enabled_is : Enabled → enabled a q.m q.f.t ≡ true
-  enabled_is e = rw k at e
-
-  -- so it is one of at most 32
-  pub listed : Enabled → q.f.t < 32
-  listed e = omega (arith, enabled_listed a q.m q.f.t (enabled_is e), min-le_right q.terms.transitions 32)
-
-  pub says_disabled : enabled (arcs_by fire q.take q.give) q.m fire.t ≡ false → says (refused (NotEnabled q.f.number))
+  pub says_disabled : enabled seen m f.t ≡ false → says (refused (NotEnabled f.number))
   unfolding stepped judged_by
-  says_disabled e = let off : enabled a q.m q.f.t ≡ false = rw k at e in rw off refl
+  says_disabled e = rw (sym (ap (λ (x : Arcs). enabled x m f.t) same) ∙ e) refl
 
-  module _ (e : Enabled) where
-    pub says_early : timely q.f.interval q.terms.denominator clock ≡ false → says (refused (OutsideInterval q.f.number))
+  module _ (e : enabled seen m f.t ≡ true) where
+    enabled_is : enabled net m f.t ≡ true
+    enabled_is = sym (ap (λ (x : Arcs). enabled x m f.t) same) ∙ e
+
+    pub says_early : timely f.interval terms.denominator clock ≡ false → says (refused (OutsideInterval f.number))
     unfolding stepped judged_by
-    says_early l = rw (enabled_is e, l) refl
+    says_early l = rw (enabled_is, l) refl
 
-    module _ (l : timely q.f.interval q.terms.denominator clock ≡ true) {r : Moved}
-        (moved : Moves (arcs_by fire q.take q.give) q.m fire.t r) where
-      -- the tokens moved, in the step's own terms
-      moves : Moves a q.m q.f.t r
-      moves = rw k at moved
-
-      pub says_over : r.within ≡ false → says (refused (TooManyTokens q.f.number))
+    module _ (l : timely f.interval terms.denominator clock ≡ true) where
+      pub says_over : moved seen m f.t ≡ None → says (refused (TooManyTokens f.number))
       unfolding stepped judged_by
-      says_over o = rw (enabled_is e, l, sym moves.within ∙ o) refl
+      says_over o = rw (enabled_is, l, moved_none net m f.t (sym (ap (λ (x : Arcs). moved x m f.t) same) ∙ o)) refl
 
-      pub says_fired : r.within ≡ true → {looked next : List ℕ} → looked ≡ looked_at q.terms.memory q.m r.middle
-          → next ≡ renewed_by (arcs_by fire q.take q.give) (restarts_fired fire.memory) looked r.later fire.t fire.instant q.since
+      pub says_fired : {r : Moved} → moved seen m f.t ≡ Some r → {looked next : List ℕ} → looked ≡ looked_at terms.memory m r.middle
+          → next ≡ renewed_by seen (restarts_fired terms.memory) looked r.later f.t f.instant since
           → says (record { checked = Passed; marking = r.later; since = next })
       unfolding stepped judged_by
-      says_fired o {looked} {next} see new =
-          let within = sym moves.within ∙ o in
-          rw (
-            enabled_is e,
-            l,
-            within,
-            new,
-            k,
-            see,
-            moves.middle,
-            moves.later within,
-            renewed_is a q.terms.memory q.m q.f.t q.since q.f.instant,
-          ) refl
+      says_fired {r} o {looked} {next} see new =
+          let to = moved_some net m f.t {r = r} (sym (ap (λ (x : Arcs). moved x m f.t) same) ∙ o) in
+          let there = ap (λ (x : Arcs). renewed_by x (restarts_fired terms.memory) looked r.later f.t f.instant since) same in
+          rw (enabled_is, l, to.within, new, there, see, to.middle, to.later, renewed_is net terms.memory m f.t since f.instant) refl

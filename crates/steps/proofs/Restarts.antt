@@ -1,10 +1,11 @@
 -- The restarts of a firing are found from the places that it gives to. Where nothing is given, the marking after the firing is at most the one that the
 -- memory word looks at. So a transition that is enabled after the firing and was not where the word looks was short there at a place that is given to, and
 -- the other way round.
-use Rattle.std.proofs.Common.{◌≡◌, ℕ, ◌+◌, ◌-◌, ◌<◌, ◌≤◌, Bool, true, false, cond, not, ◌&&◌, ◌||◌, eqb, ltb, leb, List, length, get_or, set, replicate, sym, refl, ap, ◌∙◌, arith, le-ltb, lt-ltb, eq-eqb, ne_eqb, eqb-true, le-leb, leb-false, leb-true}
-use mathlib.Core.Bool.{or-true, or-false, and-false, and_comm, and-eq-true_iff}
+use Rattle.std.proofs.Common.{◌≡◌, ℕ, zero, suc, ◌+◌, ◌-◌, ◌<◌, ◌≤◌, Bool, true, false, cond, not, ◌&&◌, ◌||◌, eqb, ltb, leb, List, [], ◌∷◌, length, get_or, set, replicate, sym, refl, ap, ◌∙◌, arith, le-ltb, lt-ltb, eq-eqb, ne_eqb, eqb-true, le-leb, leb-false, leb-true}
+use Rattle.std.specs.List.{list_any}
+use mathlib.Core.Bool.{beq, or-true, or-false, and-false, and_comm, and-eq-true_iff}
 use lib.ListN.{get_or-replicate}
-use Rattle.laws.specs.Tests.{all_same, any_below, any_start, any_more, any_none}
+use Rattle.laws.specs.Tests.{all_same, any_below, any_start, any_more}
 use Rattle.laws.specs.Arrays.{filled, length_filled, filled_at, filled_same, filled_idle, filled_set, filled_most, filled_least}
 use Rattle.run.specs.declared.Memory.{Memory}
 use Rattle.run.specs.declared.Memory.TheVariants.{Intermediate, Atomic, Carry}
@@ -62,14 +63,20 @@ module _ (a : Arcs) (few : a.transitions ≤ 32) (looked : List ℕ) (t : ℕ) w
   marked_done {p} s l u b = let e : p ≡ a.places = omega (arith, s.within) in rw e at (s.marks u b)
 
 -- ---- the marked and t
+-- where none is marked, no slot is
+none_true : (marks : List Bool) → list_any (λ b. beq b true) marks ≡ false → (k : ℕ) → get_or marks k false ≡ false
+none_true [] e k = refl
+none_true (true ∷ l) e k = cc
+none_true (false ∷ l) e zero = refl
+none_true (false ∷ l) e (suc k) = none_true l e k
+
 module _ (a : Arcs) (later : List ℕ) (instant : ℕ) (since : List ℕ) where
   -- where none is marked, none restarts
-  pub restarted_none : a.transitions ≤ 32 → (marks : List Bool) → any_below (λ u. get_or marks u false) 32 ≡ false
-      → since ≡ restarted a later marks instant since
+  pub restarted_none : (marks : List Bool) → list_any (λ b. beq b true) marks ≡ false → since ≡ restarted a later marks instant since
   unfolding restarted
-  restarted_none few marks e =
+  restarted_none marks e =
       sym (filled_idle (λ u. cond (get_or marks u false && enough a.take a.places later u) instant (get_or since u 0)) since 0 a.transitions
-      (λ k b. rw (any_none (λ u. get_or marks u false) 32 e k (omega arith)) refl))
+      (λ k b. rw (none_true marks e k) refl))
 
   module _ (again : Bool) (looked : List ℕ) (t : ℕ) (inside : t < a.transitions) (marks : List Bool)
       (told : (u : ℕ) → u < a.transitions → get_or marks u false ≡ short a looked t u) {next : List ℕ} (e : next ≡ restarted a later marks instant since) where
@@ -87,7 +94,7 @@ module _ (a : Arcs) (later : List ℕ) (instant : ℕ) (since : List ℕ) where
         (ap (λ (b : Bool). cond b instant (get_or since u 0)) (and_comm (short a looked t u) (enough a.take a.places later u)))
 
     -- t restarts as such, and it is enabled after the firing
-    renewed_set : (again && enough a.take a.places later t) ≡ true → set next t instant ≡ renewed_by a again looked later t instant since
+    pub renewed_set : (again && enough a.take a.places later t) ≡ true → set next t instant ≡ renewed_by a again looked later t instant since
     unfolding restarted renewed_by
     renewed_set h =
         let both = (and-eq-true_iff again (enough a.take a.places later t)).0 h in
@@ -97,7 +104,7 @@ module _ (a : Arcs) (later : List ℕ) (instant : ℕ) (since : List ℕ) where
         ∙ filled_set by_marks wanted since 0 a.transitions t inside (λ u l n. other u l (rw (ne_eqb u t n) (and-false again))))
 
     -- it does not, or it is not
-    renewed_kept : (again && enough a.take a.places later t) ≡ false → next ≡ renewed_by a again looked later t instant since
+    pub renewed_kept : (again && enough a.take a.places later t) ≡ false → next ≡ renewed_by a again looked later t instant since
     unfolding restarted renewed_by
     renewed_kept h = e ∙ filled_same by_marks wanted since a.transitions (λ u l. go u l (again && eqb u t) refl)
       where
@@ -108,12 +115,6 @@ module _ (a : Arcs) (later : List ℕ) (instant : ℕ) (since : List ℕ) where
             let off : enough a.take a.places later t ≡ false = rw both.0 at h in
             rw (z, off, and-false (get_or marks t false)) refl
         go u l false q = other u l q
-
-    -- so in either case
-    pub renewed_by_lem : (b : Bool) → (again && enough a.take a.places later t) ≡ b
-        → cond b (set next t instant) next ≡ renewed_by a again looked later t instant since
-    renewed_by_lem true h = renewed_set h
-    renewed_by_lem false h = renewed_kept h
 
 -- ---- the marks are the restarts
 -- what is not below is at least as large

@@ -1,36 +1,19 @@
--- What the functions go by and compute: a step's net and firing, the tokens moved, and the restarts, found from the places that a firing gives to.
-use Rattle.std.specs.Prelude.{◌≡◌, ℕ, ◌≤◌, min, Bool, true, false, cond, not, ◌&&◌, ◌||◌, List, ◌==◌, nat_lt, slice_index, slice_index_or}
+-- What the functions go by and compute: a step's net, the tokens moved, and the restarts, found from the places that a firing gives to.
+use Rattle.std.specs.Prelude.{ℕ, min, Bool, false, cond, not, ◌&&◌, ◌||◌, List, ◌==◌, nat_lt, slice_index, slice_index_or, Option, Some, None}
 use Rattle.laws.specs.Tests.{any_below}
 use Rattle.laws.specs.Arrays.{filled}
-use Rattle.firing.specs.declared.Attempt.{Attempt}
 use Rattle.firing.specs.Semantics.{Arcs, takes, gives, enough, taken, after}
 use Rattle.firing.specs.Replay.{limited}
 use Rattle.steps.specs.declared.Terms.{Terms}
-use Rattle.steps.specs.declared.Fire.{Fire}
 use Rattle.steps.specs.declared.Moved.{Moved}
 
 -- the net of a step: the counts of its terms, within the arrays, and the weights
 abbrev pub arcs_in : Terms → List ℕ → List ℕ → Arcs
 arcs_in terms take give = record { places = min terms.places 16; transitions = min terms.transitions 32; take = take; give = give }
 
--- the firing of an attempt, with the same counts and the memory word of the terms
-abbrev pub fire_in : Terms → Attempt → Fire
-fire_in terms f = record { places = min terms.places 16; transitions = min terms.transitions 32; memory = terms.memory; t = f.t; instant = f.instant }
-
--- the net of a firing
-abbrev pub arcs_by : Fire → List ℕ → List ℕ → Arcs
-arcs_by fire take give = record { places = fire.places; transitions = fire.transitions; take = take; give = give }
-
--- the counts of a firing are within the arrays
-pub record Counted (fire : Fire) : Type 0 where
-  pub places : fire.places ≤ 16
-  pub transitions : fire.transitions ≤ 32
-
--- the tokens of an enabled transition moved; where a place passes 255, the last marking does not count
-pub record Moves (a : Arcs) (m : List ℕ) (t : ℕ) (r : Moved) : Type 0 where
-  pub within : r.within ≡ limited a m t
-  pub middle : r.middle ≡ taken a m t
-  pub later : limited a m t ≡ true → r.later ≡ after a m t
+-- the tokens of an enabled transition moved, if no place passes 255
+unfoldable pub moved : Arcs → List ℕ → ℕ → Option Moved
+moved a m t = cond (limited a m t) (Some (record { middle = taken a m t; later = after a m t })) None
 
 -- place p is given to by t, and a marking has less there than u takes
 abbrev pub short_at : Arcs → List ℕ → ℕ → ℕ → ℕ → Bool

@@ -9,49 +9,26 @@ use native.Mathlib.Numerals.{add-one}
 use native.Mathlib.Omega.{arith}
 use Rattle.laws.specs.Sums.{le_or_lt}
 use Rattle.timing.specs.Solve.{instant_at}
-use Rattle.timing.specs.Timing.{Under}
+use Rattle.timing.specs.Timing.{Win, Under}
 use Rattle.sweep.specs.Sweeps.{Follows, Forward}
 use Rattle.sweep.proofs.Raising.{raised_there, raised_kept, raised_up, raised_under}
 
 -- a sweep forward that stands at i, where the instant is `now`; the firings of the windows below `first` have not moved
-pub record Climbing (origin low : ℕ → ℕ) (from k : ℕ) (x₀ : List ℕ) (first to now i : ℕ) (x : List ℕ) : Type 0 where
-  pub swept : Forward origin low from k x₀ to i x
+pub record Climbing (W : ℕ → Win) (from k : ℕ) (x₀ : List ℕ) (first last now i : ℕ) (x : List ℕ) : Type 0 where
+  pub swept : Forward W from k x₀ last i x
   pub here : now ≡ instant_at x i
   pub few : first ≤ k
+  pub ordered : 0 < last → first < last
   pub same : (j : ℕ) → j < first → instant_at x (suc j) ≡ instant_at x₀ (suc j)
 
-pub forth_start : (origin low : ℕ → ℕ) (from k : ℕ) (x₀ : List ℕ) → from ≤ k → ((j : ℕ) → j < from → Follows origin low (instant_at x₀) j)
-    → ((j : ℕ) → j ≤ k → instant_at x₀ j ≤ 64 * 2 ^ 32) → Climbing origin low from k x₀ k 0 (instant_at x₀ from) from x₀
-forth_start origin low from k x₀ l f s =
-    record {
-      swept =
-          record {
-            after = le_refl from;
-            within = l;
-            size = refl;
-            up = λ j. le_refl _;
-            follows = f;
-            under = λ S s u. u;
-            high = omega arith;
-            kept = λ j c. refl;
-            rose = λ l. absurd (omega arith);
-            small = λ j h. omega (arith, s j h);
-          };
-      here = refl;
-      few = le_refl k;
-      same = λ j l. refl;
-    }
-
-module _ {origin low : ℕ → ℕ} {from k : ℕ} {x₀ : List ℕ} {first to now i : ℕ} {x : List ℕ} (a : Climbing origin low from k x₀ first to now i x) where
-  f : Forward origin low from k x₀ to i x
+module _ {W : ℕ → Win} {from k : ℕ} {x₀ : List ℕ} {first last now i : ℕ} {x : List ℕ}
+    (a : Climbing W from k x₀ first last now i x) where
+  f : Forward W from k x₀ last i x
   f = a.swept
 
-  pub forth_stop : k ≤ i → Forward origin low from k x₀ to k x × (first ≤ k) × ((j : ℕ) → j < first → instant_at x (suc j) ≡ instant_at x₀ (suc j))
-  forth_stop h = (subst (λ (n : ℕ). Forward origin low from k x₀ to n x) (omega (arith, f.within)) f, a.few, a.same)
-
-  module _ (l : i < k) (t : ℕ) (e : t ≡ max now (instant_at x (origin i) + low i)) where
+  module _ (l : i < k) (t : ℕ) (e : t ≡ max now (instant_at x (W i).origin + (W i).low)) where
     -- the firing after i is not before t
-    pub forth_passed : t ≤ instant_at x (i + 1) → Climbing origin low from k x₀ first to (instant_at x (i + 1)) (i + 1) x
+    pub forth_passed : t ≤ instant_at x (i + 1) → Climbing W from k x₀ first last (instant_at x (i + 1)) (i + 1) x
     forth_passed h =
         let next : t ≤ instant_at x (suc i) = rw (add-one i) at h in
         record {
@@ -66,7 +43,7 @@ module _ {origin low : ℕ → ℕ} {from k : ℕ} {x₀ : List ℕ} {first to n
                     (λ n. f.follows j n)
                     (λ n.
                     let q : j ≡ i = omega arith in
-                    subst⁻¹ (Follows origin low (instant_at x)) q (omega (arith, a.here), omega arith))
+                    subst⁻¹ (Follows W (instant_at x)) q (omega (arith, a.here), omega arith))
                     (le_or_lt (suc j) i);
                 under = f.under;
                 high = omega (arith, f.high);
@@ -76,11 +53,12 @@ module _ {origin low : ℕ → ℕ} {from k : ℕ} {x₀ : List ℕ} {first to n
               };
           here = refl;
           few = a.few;
+          ordered = a.ordered;
           same = a.same;
         }
 
     -- the firing after i rises to t
-    module _ (earlier : (j : ℕ) → j < k → origin j ≤ j) (small : low i < 2 ^ 32) (inside : i + 1 < length x) (less : instant_at x (i + 1) < t) where
+    module _ (earlier : (j : ℕ) → j < k → (W j).origin ≤ j) (small : (W i).low < 2 ^ 32) (inside : i + 1 < length x) (less : instant_at x (i + 1) < t) where
       abbrev y : List ℕ
       y = set x (i + 1) t
 
@@ -100,21 +78,21 @@ module _ {origin low : ℕ → ℕ} {from k : ℕ} {x₀ : List ℕ} {first to n
       stays : (j : ℕ) → j ≤ i → instant_at y j ≡ instant_at x j
       stays j h = others j (λ q. omega arith)
 
-      follows_more : (j : ℕ) → j < i + 1 → Follows origin low (instant_at y) j
+      follows_more : (j : ℕ) → j < i + 1 → Follows W (instant_at y) j
       follows_more j h =
-          let o = stays (origin j) (omega (arith, earlier j (omega arith))) in
+          let o = stays (W j).origin (omega (arith, earlier j (omega arith))) in
           ⊎_elim
           (λ c. (omega (arith, f.follows j c, stays j (omega arith), stays (suc j) c), omega (arith, f.follows j c, o, stays (suc j) c)))
           (λ c.
           let q : j ≡ i = omega arith in
-          subst⁻¹ (Follows origin low (instant_at y)) q
-          (omega (arith, there_suc, a.here, stays i (le_refl i)), omega (arith, there_suc, stays (origin i) (earlier i l))))
+          subst⁻¹ (Follows W (instant_at y)) q
+          (omega (arith, there_suc, a.here, stays i (le_refl i)), omega (arith, there_suc, stays (W i).origin (earlier i l))))
           (le_or_lt (suc j) i)
 
-      under_next : (S : ℕ → ℕ) → ((j : ℕ) → j < k → Follows origin low S j) → Under (instant_at x₀) S → Under (instant_at y) S
+      under_next : (S : ℕ → ℕ) → ((j : ℕ) → j < k → Follows W S j) → Under (instant_at x₀) S → Under (instant_at y) S
       under_next S s u =
           let v = f.under S s u in
-          raised_under x (i + 1) t inside less S (rw (add-one i) (omega (arith, s i l, v i, v (origin i), a.here))) v
+          raised_under x (i + 1) t inside less S (rw (add-one i) (omega (arith, s i l, v i, v (W i).origin, a.here))) v
 
       kept_next : (j : ℕ) → (i + 1 < j) ⊎ (j ≤ from) → instant_at y j ≡ instant_at x₀ j
       kept_next j c =
@@ -126,10 +104,10 @@ module _ {origin low : ℕ → ℕ} {from k : ℕ} {x₀ : List ℕ} {first to n
           let most = (64 + (i + 1)) * 2 ^ 32 in
           let v =
           raised_under x (i + 1) t inside less (λ n. max (instant_at x n) most)
-          (omega (arith, a.here, f.small i (omega arith), f.small (origin i) (omega (arith, earlier i l)))) (λ n. omega arith) j in
+          (omega (arith, a.here, f.small i (omega arith), f.small (W i).origin (omega (arith, earlier i l)))) (λ n. omega arith) j in
           omega (arith, f.small j h)
 
-      pub forth_raised : (m : ℕ) → m ≡ min first i → Climbing origin low from k x₀ m (i + 1) t (i + 1) y
+      pub forth_raised : (m : ℕ) → m ≡ min first i → Climbing W from k x₀ m (i + 1) t (i + 1) y
       forth_raised m q =
           record {
             swept =
@@ -147,5 +125,6 @@ module _ {origin low : ℕ → ℕ} {from k : ℕ} {x₀ : List ℕ} {first to n
                 };
             here = omega (arith, there);
             few = omega (arith, a.few);
+            ordered = λ h. omega arith;
             same = λ j h. stays (suc j) (omega arith) ∙ a.same j (omega arith);
           }

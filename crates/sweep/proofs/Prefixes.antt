@@ -2,7 +2,6 @@
 -- all windows are met. The windows taken one after the other give the least instants, or the first window that cannot be met with those before it.
 use Prim.Native.Nat.{ℕ, suc, ◌+◌, ◌*◌, ◌-◌, ◌≤◌, ◌<◌, ◌^◌, max}
 use mathlib.Core.Path.{◌≡◌, refl, sym, ap, ◌∙◌, subst, subst⁻¹}
-use mathlib.Core.Bool.{Bool}
 use mathlib.Core.List.{List, []}
 use mathlib.Core.Logic.{⊎_elim}
 use lib.ListN.{length, set, take, replicate, length-set, length-append, length-replicate, get_or-eq_default}
@@ -10,6 +9,7 @@ use lib.Seq.{get_or-set_same, get_or-set_other, length-take-le, get_or-take, ext
 use native.Mathlib.Nat.{le_refl, le_trans, mul-le-mul_left}
 use native.Mathlib.Numerals.{add-one}
 use native.Mathlib.Omega.{arith}
+use Rattle.std.proofs.Common.{below_more}
 use Rattle.laws.specs.Slots.{pad_to, get_d_padded}
 use Rattle.laws.specs.Sums.{le_or_lt}
 use Rattle.timing.specs.Timing.{Win, Meets, Wellformed, capped, Under}
@@ -18,8 +18,11 @@ use Rattle.timing.specs.Claims.{LeastInstants, Judges}
 use Rattle.timing.proofs.Feasible.{restrict, feasible_same}
 use Rattle.timing.proofs.Cap.{cap, capped_le}
 use Rattle.timing.proofs.Solved.{prefixes_right, judge_unique, possible_least}
-use Rattle.sweep.specs.Arrays.{entry, uppers, Listed, earliest_by, window_in}
-use Rattle.sweep.specs.Sweeps.{asked, origin_of, low_of, high_of, Follows, InTime, Solved, Entered, Unmet}
+use Rattle.std.specs.Prelude.{Ok, Err, Bool, true, false, cond}
+use Rattle.timing.specs.declared.Window.{Window}
+use Rattle.timing.specs.Windows.{no_window, win_of, windows}
+use Rattle.sweep.specs.Arrays.{Listed, Short, earliest_by}
+use Rattle.sweep.specs.Sweeps.{asked, Follows, InTime, Solved, Entered, Unmet}
 use Rattle.sweep.proofs.Raising.{each_index}
 use Rattle.sweep.proofs.Rounds.{meets_parts, meets_follows, meets_reaches}
 
@@ -33,7 +36,7 @@ module _ (W : ℕ → Win) where
       }
 
   -- the last upper bound is met too
-  pub entered_solved : (i : ℕ) (x : List ℕ) → Entered W (suc i) x → InTime (origin_of W) (high_of W) (instant_at x) i → Solved W (suc i) x
+  pub entered_solved : (i : ℕ) (x : List ℕ) → Entered W (suc i) x → InTime W (instant_at x) i → Solved W (suc i) x
   entered_solved i x e r =
       record {
         size = e.size;
@@ -44,7 +47,7 @@ module _ (W : ℕ → Win) where
                   meets_parts W (instant_at x) j (e.follows j l)
                   (⊎_elim
                   (λ h. e.reaches j h)
-                  (λ h. let q : j ≡ i = omega arith in subst⁻¹ (InTime (origin_of W) (high_of W) (instant_at x)) q r)
+                  (λ h. let q : j ≡ i = omega arith in subst⁻¹ (InTime W (instant_at x)) q r)
                   (le_or_lt (suc (suc j)) (suc i)));
             };
         under = e.under;
@@ -77,7 +80,7 @@ module _ (W : ℕ → Win) where
       before : (j : ℕ) → j ≤ i → instant_at y j ≡ instant_at x j
       before j h = others j (λ e. omega arith)
 
-      follows : (j : ℕ) → j < suc i → Follows (origin_of W) (low_of W) (instant_at y) j
+      follows : (j : ℕ) → j < suc i → Follows W (instant_at y) j
       follows j l =
           let o = before (W j).origin (omega (arith, wf j l)) in
           let this = before j (omega arith) in
@@ -85,11 +88,11 @@ module _ (W : ℕ → Win) where
           (λ h. let g = meets_follows W (instant_at x) j (s.feasible.each j h) in (omega (arith, before (suc j) h), omega (arith, before (suc j) h)))
           (λ h.
           let q : j ≡ i = omega arith in
-          subst⁻¹ (Follows (origin_of W) (low_of W) (instant_at y)) q
+          subst⁻¹ (Follows W (instant_at y)) q
           (omega (arith, there, before i (le_refl i)), omega (arith, there, before (W i).origin (wf i (le_refl _)))))
           (le_or_lt (suc j) i)
 
-      reaches : (j : ℕ) → suc j < suc i → InTime (origin_of W) (high_of W) (instant_at y) j
+      reaches : (j : ℕ) → suc j < suc i → InTime W (instant_at y) j
       reaches j l =
           let h : j < i = omega arith in
           omega (
@@ -122,54 +125,106 @@ module _ (W : ℕ → Win) where
       enter_solved h =
           entered_solved i y entered (omega (arith, ap (asked (W i).high) there, before (W i).origin (wf i (le_refl _))))
 
--- ---- the same of windows in lists, as the code has it
+-- ---- the same of windows in a slice, as the code has it
 
-pub listed_first : {origin low : List ℕ} {bounded : List Bool} {high : List ℕ} {n m : ℕ} → Listed origin low bounded high n → m ≤ n
-    → Listed origin low bounded high m
-listed_first p l =
-    record {
-      few = le_trans l p.few;
-      earlier = λ i h. p.earlier i (le_trans h l);
-      small = λ i h. p.small i (le_trans h l);
-    }
-
-module _ {origin low : List ℕ} {bounded : List Bool} {high : List ℕ} {i : ℕ} {x : List ℕ} (p : Listed origin low bounded high (i + 1))
-    (s : Solved (window_in origin low bounded high) i x) where
+module _ {ws : List Window} {i : ℕ} {x : List ℕ} (p : Listed ws) (h : i < length ws) (b : Short ws i)
+    (low : (windows ws i).low < 2 ^ 32) (s : Solved (windows ws) i x) where
   abbrev W : ℕ → Win
-  W = window_in origin low bounded high
+  W = windows ws
 
   wf : Wellformed W (suc i)
   wf j l = p.earlier j (omega arith)
 
   lows : (j : ℕ) → j < suc i → (W j).low < 2 ^ 32
-  lows j l = p.small j (omega arith)
+  lows j l = let P : ℕ → Type 0 = λ n. (windows ws n).low < 2 ^ 32 in below_more P i b low j (omega arith)
 
   few : suc i ≤ 64
   few = omega (arith, p.few)
 
-  pub origin_in : entry origin i < 65
-  origin_in = omega (arith, wf i (le_refl _), few)
-
-  pub enter_fits : instant_at x (entry origin i) + entry low i < 2 ^ 64
+  pub enter_fits : instant_at x ((W i).origin) + (W i).low < 2 ^ 64
   enter_fits = omega (arith, first_small W i x wf lows s few)
 
-  module _ (t : ℕ) (e : t ≡ max (instant_at x i) (instant_at x (entry origin i) + entry low i)) where
+  module _ (t : ℕ) (e : t ≡ max (instant_at x i) (instant_at x ((W i).origin) + (W i).low)) where
     stored : set x (i + 1) t ≡ set x (suc i) (first W i x wf lows s few)
     stored = ap (λ (j : ℕ). set x j t) (add-one i) ∙ ap (set x (suc i)) e
 
     pub enter_put : Entered W (i + 1) (set x (i + 1) t)
     enter_put = rw (stored, add-one i) (entered W i x wf lows s few)
 
-    pub enter_met : (needed : ℕ) → needed ≡ asked (uppers bounded high i) t → needed ≤ instant_at (set x (i + 1) t) (entry origin i)
+    pub enter_met : (needed : ℕ) → needed ≡ asked ((W i).high) t → needed ≤ instant_at (set x (i + 1) t) ((W i).origin)
         → Solved W (i + 1) (set x (i + 1) t)
     enter_met needed q h =
         rw (stored, add-one i)
         (enter_solved W i x wf lows s few
         (omega (
           arith,
-          ap (asked (uppers bounded high i)) e,
-          get_or-set_other x (i + 1) (entry origin i) t 0 (λ r. omega (arith, wf i (le_refl _))),
+          ap (asked ((W i).high)) e,
+          get_or-set_other x (i + 1) ((W i).origin) t 0 (λ r. omega (arith, wf i (le_refl _))),
         )))
+
+-- ---- the first windows of a slice are windows themselves
+
+module _ {V W : ℕ → Win} {k : ℕ} (same : (j : ℕ) → j < k → V j ≡ W j) where
+  meets_same : (S : ℕ → ℕ) → ((j : ℕ) → j < k → Meets 1 S j (V j)) → (j : ℕ) → j < k → Meets 1 S j (W j)
+  meets_same S m j l = subst (Meets 1 S j) (same j l) (m j l)
+
+  meets_back : (S : ℕ → ℕ) → ((j : ℕ) → j < k → Meets 1 S j (W j)) → (j : ℕ) → j < k → Meets 1 S j (V j)
+  meets_back S m j l = subst⁻¹ (Meets 1 S j) (same j l) (m j l)
+
+  entered_same : {x : List ℕ} → Entered V k x → Entered W k x
+  entered_same {x} e =
+      record {
+        some = e.some;
+        size = e.size;
+        starts = e.starts;
+        follows = λ j l.
+            let S = instant_at x in
+            let P : Win → Type 0 = λ w. (S j ≤ S (suc j)) × (S w.origin + w.low ≤ S (suc j)) in
+            subst P (same j l) (e.follows j l);
+        reaches = λ j l.
+            let S = instant_at x in
+            let P : Win → Type 0 = λ w. asked w.high (S (suc j)) ≤ S w.origin in
+            subst P (same j (omega arith)) (e.reaches j l);
+        under = λ S m. e.under S (meets_back S m);
+        small = e.small;
+      }
+
+  solved_same : {x : List ℕ} → Solved V k x → Solved W k x
+  solved_same {x} s =
+      record {
+        size = s.size;
+        feasible = record { starts = s.feasible.starts; each = meets_same (instant_at x) s.feasible.each };
+        under = λ S m. s.under S (meets_back S m);
+      }
+
+  unmet_same : Unmet V k → Unmet W k
+  unmet_same u S f = u S (record { starts = f.starts; each = meets_back S f.each })
+
+module _ (ws : List Window) (n : ℕ) (h : n ≤ length ws) where
+  long : length (take n ws) ≡ n
+  long = length-take-le n ws h
+
+  same : (j : ℕ) → j < n → windows (take n ws) j ≡ windows ws j
+  same j l = ap win_of (get_or-take n ws j no_window l)
+
+  back : (j : ℕ) → j < n → windows ws j ≡ windows (take n ws) j
+  back j l = sym (same j l)
+
+  pub first_listed : Listed ws → Listed (take n ws)
+  first_listed p =
+      record {
+        few = omega (arith, p.few, long);
+        earlier = λ j l. let e = ap (λ (w : Win). w.origin) (same j (omega (arith, long))) in omega (arith, e, p.earlier j (omega (arith, long)));
+      }
+
+  pub first_entered : {x : List ℕ} → Entered (windows ws) n x → Entered (windows (take n ws)) (length (take n ws)) x
+  first_entered {x} e = rw long (entered_same back e)
+
+  pub first_met : (x : List ℕ) (met : Bool)
+      → cond met (Solved (windows (take n ws)) (length (take n ws)) x) (Unmet (windows (take n ws)) (length (take n ws)))
+      → cond met (Solved (windows ws) n x) (Unmet (windows ws) n)
+  first_met x true s = solved_same same (rw long at s)
+  first_met x false u = unmet_same same (rw long at u)
 
 -- ---- the verdict
 
@@ -221,11 +276,11 @@ module _ (W : ℕ → Win) (n : ℕ) (few : n ≤ 64) (wf : Wellformed W n) (i :
       (λ c. omega (arith, p j, u j, get_or-eq_default (take (suc n) x) 0 {n = j} (omega (arith, t.size))))
       (le_or_lt j n))
 
-  pub answer_met : n ≤ i → i ≤ n → record { failed = 0; instants = x } ≡ earliest_by (solve_prefixes 1 W n)
+  pub answer_met : n ≤ i → i ≤ n → Ok x ≡ earliest_by (solve_prefixes 1 W n)
   answer_met l h =
       let e : met_by (take (suc n) x) ≡ solve_prefixes 1 W n =
       judge_unique 1 W n (met_by (take (suc n) x)) (solve_prefixes 1 W n) (judges_met l h) (prefixes_right 1 W n wf) in
-      ap (λ (y : List ℕ). record { failed = 0; instants = y }) (padded l h) ∙ ap earliest_by e
+      ap Ok (padded l h) ∙ ap earliest_by e
 
-  pub answer_fails : i < n → Unmet W (i + 1) → record { failed = i + 1; instants = replicate 65 0 } ≡ earliest_by (solve_prefixes 1 W n)
+  pub answer_fails : i < n → Unmet W (i + 1) → Err (i + 1) ≡ earliest_by (solve_prefixes 1 W n)
   answer_fails l u = ap earliest_by (judge_unique 1 W n (fails_at (i + 1)) (solve_prefixes 1 W n) (judges_fails l u) (prefixes_right 1 W n wf))

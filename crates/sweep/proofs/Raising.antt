@@ -1,7 +1,7 @@
 -- What is raised to t is at most whatever is t or more there. An upper bound is met exactly when the origin is not before what the bound asks.
+use Rattle.std.specs.Prelude.{None, Option, Some}
 use Prim.Native.Nat.{ℕ, ◌-◌, ◌≤◌, ◌<◌}
-use mathlib.Core.Path.{◌≡◌, subst⁻¹}
-use mathlib.Core.Bool.{Bool, true, false}
+use mathlib.Core.Path.{◌≡◌, refl, subst⁻¹}
 use mathlib.Core.List.{List}
 use mathlib.Core.Logic.{◌↔◌}
 use lib.ListN.{length, set}
@@ -9,8 +9,8 @@ use lib.Seq.{get_or-set_same, get_or-set_other}
 use native.Mathlib.Decide.{ℕ_discrete}
 use native.Mathlib.Omega.{arith}
 use Rattle.timing.specs.Timing.{Upper, at_most, below, unbounded, Within, Closed, Under}
+use Rattle.timing.specs.Windows.{upper_of}
 use Rattle.timing.specs.Solve.{instant_at}
-use Rattle.sweep.specs.Arrays.{upper_in}
 use Rattle.sweep.specs.Sweeps.{asked}
 
 -- what holds of each index but `at`, and of `at`, holds of each
@@ -48,14 +48,10 @@ asked_le (at_most b) c t = omega arith
 asked_le (below b) c t = absurd c
 asked_le unbounded c t = omega arith
 
-module _ (bounded : Bool) (t high : ℕ) where
-  pub asks_none : bounded ≡ false → 0 ≡ asked (upper_in bounded high) t
-  asks_none e = rw e
+pub asks_past : {l : Option ℕ} {b : ℕ} → l ≡ Some b → (t : ℕ) → t - b ≡ asked (upper_of l) t
+asks_past e t = rw e refl
 
-  pub asks_past : bounded ≡ true → t - high ≡ asked (upper_in bounded high) t
-  asks_past e = rw e
-
--- no upper bound of the lists is an open one
-pub upper_closed : (bounded : Bool) (high : ℕ) → Closed (upper_in bounded high)
-upper_closed true high = tt
-upper_closed false high = tt
+-- no upper bound of a window is an open one
+pub upper_closed : (latest : Option ℕ) → Closed (upper_of latest)
+upper_closed None = tt
+upper_closed (Some b) = tt

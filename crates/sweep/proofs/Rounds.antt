@@ -15,20 +15,20 @@ use Rattle.timing.specs.Solve.{Edge, instant_at, edges}
 use Rattle.timing.proofs.Pass.{Sat, Fits}
 use Rattle.timing.proofs.Climb.{Start, Near, Step, near_start, nearer, exhausted}
 use Rattle.timing.proofs.Edges.{edges_fit, serves_of, sat_of, meets_of}
-use Rattle.sweep.specs.Sweeps.{asked, origin_of, low_of, high_of, Follows, InTime, Backward, Forward, Solved, Entered, Unmet}
+use Rattle.sweep.specs.Sweeps.{asked, Follows, InTime, Backward, Forward, Solved, Entered, Unmet}
 use Rattle.sweep.proofs.Raising.{asked_within, asked_mono, asked_le}
 use Rattle.sweep.proofs.Level.{above_unmet, started_unmet}
 
 -- ---- a window, by what a sweep forward and a sweep backward leave of it
 
 module _ (W : ℕ → Win) (S : ℕ → ℕ) (i : ℕ) where
-  pub meets_parts : Follows (origin_of W) (low_of W) S i → InTime (origin_of W) (high_of W) S i → Meets 1 S i (W i)
+  pub meets_parts : Follows W S i → InTime W S i → Meets 1 S i (W i)
   meets_parts f r = record { ordered = f.0; early = omega arith; late = (asked_within (W i).high (S (W i).origin) (S (suc i))).0 r }
 
-  pub meets_follows : Meets 1 S i (W i) → Follows (origin_of W) (low_of W) S i
+  pub meets_follows : Meets 1 S i (W i) → Follows W S i
   meets_follows m = (m.ordered, omega (arith, m.early))
 
-  pub meets_reaches : Meets 1 S i (W i) → InTime (origin_of W) (high_of W) S i
+  pub meets_reaches : Meets 1 S i (W i) → InTime W S i
   meets_reaches m = (asked_within (W i).high (S (W i).origin) (S (suc i))).1 m.late
 
 -- instants in order are at most the last
@@ -62,9 +62,9 @@ pub record Settling (W : ℕ → Win) (k : ℕ) (x₀ x : List ℕ) (bottom top 
   pub size : length x ≡ 65
   pub starts : instant_at x 0 ≡ 0
   pub level : instant_at x k ≡ instant_at x₀ k
-  pub follows : (j : ℕ) → j < k → Follows (origin_of W) (low_of W) (instant_at x) j
-  pub met : (j : ℕ) → j < bottom → InTime (origin_of W) (high_of W) (instant_at x) j
-  pub reaches : (j : ℕ) → top ≤ j → j < k → InTime (origin_of W) (high_of W) (instant_at x) j
+  pub follows : (j : ℕ) → j < k → Follows W (instant_at x) j
+  pub met : (j : ℕ) → j < bottom → InTime W (instant_at x) j
+  pub reaches : (j : ℕ) → top ≤ j → j < k → InTime W (instant_at x) j
   pub under : (S : ℕ → ℕ) → ((j : ℕ) → j < k → Meets 1 S j (W j)) → Under (instant_at x) S
   pub near : (S : ℕ → ℕ) → Feasible 1 W k S → (round ≤ 64) × Near 64 (edges 1 W k []) (64 - round) x
 
@@ -94,14 +94,14 @@ module _ {W : ℕ → Win} {k : ℕ} where
   settle_spent s h S f = omega (arith, s.near S f)
 
   module _ {x₀ x : List ℕ} {bottom top round : ℕ} (s : Settling W k x₀ x bottom top round)
-      {from : ℕ} {z : List ℕ} (b : Backward (origin_of W) (high_of W) top x from 0 z) where
+      {from : ℕ} {z : List ℕ} (b : Backward W top x from 0 z) where
     pub back_size : length z ≡ 65
     back_size = b.size ∙ s.size
 
     back_under : (S : ℕ → ℕ) → ((j : ℕ) → j < k → Meets 1 S j (W j)) → Under (instant_at z) S
     back_under S m = b.under S (λ j l. meets_reaches W S j (m j (omega (arith, s.within)))) (s.under S m)
 
-    back_reaches : (j : ℕ) → j < k → InTime (origin_of W) (high_of W) (instant_at z) j
+    back_reaches : (j : ℕ) → j < k → InTime W (instant_at z) j
     back_reaches j l =
         ⊎_elim
         (λ h. b.reaches j (omega arith) h)
@@ -138,7 +138,7 @@ module _ {W : ℕ → Win} {k : ℕ} where
     pub forth_from : from ≤ k
     forth_from = omega (arith, b.low, s.within)
 
-    pub forth_follows : (j : ℕ) → j < from → Follows (origin_of W) (low_of W) (instant_at z) j
+    pub forth_follows : (j : ℕ) → j < from → Follows W (instant_at z) j
     forth_follows j h =
         let l : j < k = omega (arith, forth_from) in
         let g = s.follows j l in
@@ -157,11 +157,11 @@ module _ {W : ℕ → Win} {k : ℕ} where
         (λ n. omega arith) j in
         omega (arith, all j h)
 
-    module _ {to : ℕ} {y : List ℕ} (f : Forward (origin_of W) (low_of W) from k z to k y) where
+    module _ {to : ℕ} {y : List ℕ} (f : Forward W from k z to k y) where
       round_under : (S : ℕ → ℕ) → ((j : ℕ) → j < k → Meets 1 S j (W j)) → Under (instant_at y) S
       round_under S m = f.under S (λ j l. meets_follows W S j (m j l)) (back_under S m)
 
-      round_reaches : (j : ℕ) → to ≤ j → j < k → InTime (origin_of W) (high_of W) (instant_at y) j
+      round_reaches : (j : ℕ) → to ≤ j → j < k → InTime W (instant_at y) j
       round_reaches j h l = omega (arith, ap (asked (W j).high) (f.kept (suc j) (inl (omega arith))), back_reaches j l, f.up (W j).origin)
 
       round_size : length y ≡ 65
@@ -246,25 +246,15 @@ module _ {W : ℕ → Win} {k : ℕ} where
             (sat_of 1 W S k p.each)))
             (le_or_lt (suc round) 64)
 
-        module _ {first : ℕ} (inside : first ≤ k) (same : (j : ℕ) → j < first → instant_at y (suc j) ≡ instant_at z (suc j)) where
-          -- the firing `to` rose, so its window is not below the first
-          first_below : (to ≡ 0 → ⊥) → first ≤ to
-          first_below n =
-              ⊎_elim
-              (λ h. h)
-              (λ h.
-              let q : to ≡ suc (to - 1) = omega arith in
-              absurd (omega (arith, f.rose (omega arith), same (to - 1) (omega arith), ap (instant_at y) q, ap (instant_at z) q)))
-              (le_or_lt first to)
-
-          pub settle_more : (from ≡ 0 → ⊥) → (to ≡ 0 → ⊥) → (to ≡ k → ⊥) → Settling W k x₀ y first to (suc round)
-          settle_more n m l =
+        module _ {first : ℕ} (below_to : first < to) (same : (j : ℕ) → j < first → instant_at y (suc j) ≡ instant_at z (suc j)) where
+          pub settle_more : (from ≡ 0 → ⊥) → (to ≡ k → ⊥) → Settling W k x₀ y first to (suc round)
+          settle_more n l =
               record {
                 few = s.few;
                 earlier = s.earlier;
                 closed = s.closed;
                 entered = s.entered;
-                below = first_below m;
+                below = omega arith;
                 some = omega arith;
                 within = f.high;
                 size = round_size;

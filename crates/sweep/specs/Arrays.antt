@@ -1,16 +1,15 @@
--- Windows held in four lists, what is asked of them, and the answer that a verdict is.
-use Rattle.std.specs.Prelude.{ℕ, ◌≤◌, ◌<◌, ◌^◌, min, Bool, false, cond, List, get_or, replicate}
+-- Windows held in a slice, what is asked of them, and the answer that a verdict is.
+use Rattle.std.specs.Prelude.{ℕ, ◌≤◌, ◌<◌, ◌^◌, ◌≡◌, min, List, get_or, length, Result, Ok, Err}
 use Rattle.laws.specs.Slots.{pad_to}
 use Rattle.timing.specs.declared.Window.{Window}
-use Rattle.timing.specs.Timing.{Upper, at_most, unbounded, Win, Wellformed}
-use Rattle.timing.specs.Windows.{no_window, upper_of}
+use Rattle.timing.specs.Timing.{Win, Wellformed}
+use Rattle.timing.specs.Windows.{no_window, windows, upper_of}
 use Rattle.timing.specs.Solve.{Verdict, met_by, fails_at, solve_prefixes}
-use Rattle.sweep.specs.declared.Earliest.{Earliest}
 
--- the instants that meet all windows, or how many windows cannot be met together; zeros in all other slots
-abbrev pub earliest_by : Verdict → Earliest
-earliest_by (met_by x) = record { failed = 0; instants = pad_to 65 0 x }
-earliest_by (fails_at k) = record { failed = k; instants = replicate 65 0 }
+-- the instants that meet all windows, with zeros in all other slots, or how many windows cannot be met together
+abbrev pub earliest_by : Verdict → Result (List ℕ) ℕ
+earliest_by (met_by x) = Ok (pad_to 65 0 x)
+earliest_by (fails_at k) = Err k
 
 -- window i of windows that anyone may hand over: the origin counts as far as it is an earlier firing
 abbrev pub clipped_at : List Window → ℕ → Win
@@ -19,24 +18,21 @@ clipped_at ws i =
     record { origin = min w.origin i; low = w.interval.earliest; high = upper_of w.interval.latest }
 
 -- at most 64 windows count, and each is measured from an earlier firing
-unfoldable pub earliest_of : List Window → ℕ → Earliest
+unfoldable pub earliest_of : List Window → ℕ → Result (List ℕ) ℕ
 earliest_of ws count = earliest_by (solve_prefixes 1 (clipped_at ws) (min count 64))
 
--- ---- four lists
-abbrev pub entry : List ℕ → ℕ → ℕ
-entry l i = get_or l i 0
+-- ---- windows in a slice
 
-abbrev pub upper_in : Bool → ℕ → Upper
-upper_in bounded high = cond bounded (at_most high) unbounded
+-- vs is ws with each window measured from an earlier firing
+pub record Clipped (ws vs : List Window) : Type 0 where
+  pub size : length vs ≡ length ws
+  pub same : (i : ℕ) → i < length ws → windows vs i ≡ clipped_at ws i
 
-abbrev pub window_in : List ℕ → List ℕ → List Bool → List ℕ → ℕ → Win
-window_in origin low bounded high i = record { origin = get_or origin i 0; low = get_or low i 0; high = upper_in (get_or bounded i false) (get_or high i 0) }
+-- at most 64 windows, each measured from an earlier firing
+pub record Listed (ws : List Window) : Type 0 where
+  pub few : length ws ≤ 64
+  pub earlier : Wellformed (windows ws) (length ws)
 
-abbrev pub uppers : List Bool → List ℕ → ℕ → Upper
-uppers bounded high i = upper_in (get_or bounded i false) (get_or high i 0)
-
--- n windows, of at most 64, each measured from an earlier firing, with lower bounds below 2 ^ 32
-pub record Listed (origin low : List ℕ) (bounded : List Bool) (high : List ℕ) (n : ℕ) : Type 0 where
-  pub few : n ≤ 64
-  pub earlier : Wellformed (window_in origin low bounded high) n
-  pub small : (i : ℕ) → i < n → get_or low i 0 < 2 ^ 32
+-- the lower bounds of the first n windows are below 2 ^ 32
+abbrev pub Short : List Window → ℕ → Type 0
+Short ws n = (i : ℕ) → i < n → (windows ws i).low < 2 ^ 32

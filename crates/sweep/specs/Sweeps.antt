@@ -11,43 +11,33 @@ asked (at_most b) t = t - b
 asked (below b) t = suc t - b
 asked unbounded t = 0
 
--- the parts of windows
-abbrev pub origin_of : (ℕ → Win) → ℕ → ℕ
-origin_of W i = (W i).origin
-
-abbrev pub low_of : (ℕ → Win) → ℕ → ℕ
-low_of W i = (W i).low
-
-abbrev pub high_of : (ℕ → Win) → ℕ → Upper
-high_of W i = (W i).high
-
 -- the firing after j is not before j, and not before its lower bound
-abbrev pub Follows : (ℕ → ℕ) → (ℕ → ℕ) → (ℕ → ℕ) → ℕ → Type 0
-Follows origin low S j = (S j ≤ S (suc j)) × (S (origin j) + low j ≤ S (suc j))
+abbrev pub Follows : (ℕ → Win) → (ℕ → ℕ) → ℕ → Type 0
+Follows W S j = (S j ≤ S (suc j)) × (S (W j).origin + (W j).low ≤ S (suc j))
 
 -- the firing after j is not past its upper bound
-abbrev pub InTime : (ℕ → ℕ) → (ℕ → Upper) → (ℕ → ℕ) → ℕ → Type 0
-InTime origin upper S j = asked (upper j) (S (suc j)) ≤ S (origin j)
+abbrev pub InTime : (ℕ → Win) → (ℕ → ℕ) → ℕ → Type 0
+InTime W S j = asked (W j).high (S (suc j)) ≤ S (W j).origin
 
 -- x is what x₀ became when the firings top, .., i + 1 raised their origins; `from` is the lowest index that rose, and top where none did
-pub record Backward (origin : ℕ → ℕ) (upper : ℕ → Upper) (top : ℕ) (x₀ : List ℕ) (from i : ℕ) (x : List ℕ) : Type 0 where
+pub record Backward (W : ℕ → Win) (top : ℕ) (x₀ : List ℕ) (from i : ℕ) (x : List ℕ) : Type 0 where
   pub within : i ≤ top
   pub size : length x ≡ length x₀
   pub up : Under (instant_at x₀) (instant_at x)
-  pub reaches : (j : ℕ) → i ≤ j → j < top → InTime origin upper (instant_at x) j
-  pub under : (S : ℕ → ℕ) → ((j : ℕ) → j < top → InTime origin upper S j) → Under (instant_at x₀) S → Under (instant_at x) S
+  pub reaches : (j : ℕ) → i ≤ j → j < top → InTime W (instant_at x) j
+  pub under : (S : ℕ → ℕ) → ((j : ℕ) → j < top → InTime W S j) → Under (instant_at x₀) S → Under (instant_at x) S
   pub low : from ≤ top
   pub kept : (j : ℕ) → (j < from) ⊎ (top ≤ j) → instant_at x j ≡ instant_at x₀ j
   pub rose : from < top → instant_at x₀ from < instant_at x from
 
 -- x is what x₀ became when the firings from + 1, .., i were raised to their lower bounds; `to` is the highest index that rose, and 0 where none did
-pub record Forward (origin low : ℕ → ℕ) (from k : ℕ) (x₀ : List ℕ) (to i : ℕ) (x : List ℕ) : Type 0 where
+pub record Forward (W : ℕ → Win) (from k : ℕ) (x₀ : List ℕ) (to i : ℕ) (x : List ℕ) : Type 0 where
   pub after : from ≤ i
   pub within : i ≤ k
   pub size : length x ≡ length x₀
   pub up : Under (instant_at x₀) (instant_at x)
-  pub follows : (j : ℕ) → j < i → Follows origin low (instant_at x) j
-  pub under : (S : ℕ → ℕ) → ((j : ℕ) → j < k → Follows origin low S j) → Under (instant_at x₀) S → Under (instant_at x) S
+  pub follows : (j : ℕ) → j < i → Follows W (instant_at x) j
+  pub under : (S : ℕ → ℕ) → ((j : ℕ) → j < k → Follows W S j) → Under (instant_at x₀) S → Under (instant_at x) S
   pub high : to ≤ i
   pub kept : (j : ℕ) → (to < j) ⊎ (j ≤ from) → instant_at x j ≡ instant_at x₀ j
   pub rose : 0 < to → instant_at x₀ to < instant_at x to
@@ -64,8 +54,8 @@ pub record Entered (W : ℕ → Win) (k : ℕ) (x : List ℕ) : Type 0 where
   pub some : 0 < k
   pub size : length x ≡ 65
   pub starts : instant_at x 0 ≡ 0
-  pub follows : (j : ℕ) → j < k → Follows (origin_of W) (low_of W) (instant_at x) j
-  pub reaches : (j : ℕ) → suc j < k → InTime (origin_of W) (high_of W) (instant_at x) j
+  pub follows : (j : ℕ) → j < k → Follows W (instant_at x) j
+  pub reaches : (j : ℕ) → suc j < k → InTime W (instant_at x) j
   pub under : (S : ℕ → ℕ) → ((j : ℕ) → j < k → Meets 1 S j (W j)) → Under (instant_at x) S
   pub small : instant_at x k ≤ 64 * 2 ^ 32
 

@@ -1,5 +1,7 @@
 -- A number that was written is read again, and what is read was written so: the digits of a value are those of the text,
 -- and the form that a reader asks for, no leading zero, is that of the one width that the writer takes.
+use Rattle.std.specs.Prelude.{None, Option, Some}
+use Rattle.laws.specs.Pairs.{some_parts}
 use Prim.Native.Nat.{ℕ, zero, suc, ◌+◌, ◌-◌, ◌*◌, ◌/◌, ◌%◌, ◌^◌, ◌≤◌, ◌<◌}
 use native.Mathlib.Nat.{pow-suc, pow-le-pow_right, mul-le-mul_right, div-lt_iff_lt-mul, div-add-mod', mod-lt}
 use native.Mathlib.Omega.{arith}
@@ -13,8 +15,6 @@ use lib.Arith.{digits_div, digits_mod}
 use lib.Dec.{leb, eqb, lit<, lit≤}
 use borrow.Author.Tests.{leb-true, leb-false, eqb-true, eqb-false, not-true, le-leb, lt-leb, eq-eqb, ne_eqb}
 use Rattle.laws.specs.Writing.{drop_take, drop_behind}
-use Rattle.text.specs.declared.NumberRead.{NumberRead}
-use Rattle.text.specs.declared.NumberRead.TheVariants.{Value, NoNumber}
 use Rattle.text.specs.Key.{begins_with}
 use Rattle.text.proofs.KeyLaws.{begins_text, begins_split, begins_take}
 use Rattle.text.specs.Number.{is_digit, digits_of, value_of, well_formed, read_digits, number_at, separator, closed, field_at}
@@ -136,14 +136,14 @@ pub zero_form : (ds : List ℕ) → 2 ≤ length ds → get_or ds 0 0 ≡ 0 → 
 zero_form ds h z = rw (ne_eqb (length ds) 1 (λ e. omega arith), z) (and-false (leb 1 (length ds) && leb (length ds) 9))
 
 -- ---- a number at a position
-pub number_of_right : (ds : List ℕ) (at : ℕ) → well_formed ds ≡ true → read_digits ds at ≡ Value (value_of 0 ds) (at + length ds)
-number_of_right ds at e = ap (λ (t : Bool). cond t (Value (value_of 0 ds) (at + length ds)) NoNumber) e
+pub number_of_right : (ds : List ℕ) (at : ℕ) → well_formed ds ≡ true → read_digits ds at ≡ Some (value_of 0 ds, at + length ds)
+number_of_right ds at e = ap (λ (t : Bool). cond {A = Option (ℕ × ℕ)} t (Some (value_of 0 ds, at + length ds)) None) e
 
-pub number_of_wrong : (ds : List ℕ) (at : ℕ) → well_formed ds ≡ false → read_digits ds at ≡ NoNumber
-number_of_wrong ds at e = ap (λ (t : Bool). cond t (Value (value_of 0 ds) (at + length ds)) NoNumber) e
+pub number_of_wrong : (ds : List ℕ) (at : ℕ) → well_formed ds ≡ false → read_digits ds at ≡ None
+number_of_wrong ds at e = ap (λ (t : Bool). cond {A = Option (ℕ × ℕ)} t (Some (value_of 0 ds, at + length ds)) None) e
 
 pub number_text : (n at c : ℕ) (s rest : List ℕ) → n < 10 ^ 9 → is_digit c ≡ false → drop at s ≡ decimal n ++ c ∷ rest
-    → number_at s at ≡ Value n (at + length (decimal n))
+    → number_at s at ≡ Some (n, at + length (decimal n))
 unfolding decimal
 number_text n at c s rest h stop e =
     let w : Width n (width 19 n) = width_right 19 n (omega arith) in
@@ -159,17 +159,18 @@ pub record NumberThere (s : List ℕ) (at n next : ℕ) : Type 0 where
   pub end : next ≡ at + length (decimal n)
   pub small : n < 10 ^ 9
 
-pub number_split : (n at next : ℕ) (s : List ℕ) → number_at s at ≡ Value n next → NumberThere s at n next
+pub number_split : (n at next : ℕ) (s : List ℕ) → number_at s at ≡ Some (n, next) → NumberThere s at n next
 unfolding decimal
 number_split n at next s = go (well_formed ds) refl
   where
     ds : List ℕ
     ds = digits_of (drop at s)
 
-    go : (t : Bool) → well_formed ds ≡ t → cond t (Value (value_of 0 ds) (at + length ds)) NoNumber ≡ Value n next → NumberThere s at n next
+    go : (t : Bool) → well_formed ds ≡ t → cond {A = Option (ℕ × ℕ)} t (Some (value_of 0 ds, at + length ds)) None ≡ Some (n, next) → NumberThere s at n next
     go true e q =
-        let value : value_of 0 ds ≡ n = cc in
-        let end : at + length ds ≡ next = cc in
+        let parts = some_parts q in
+        let value : value_of 0 ds ≡ n = parts.0 in
+        let end : at + length ds ≡ next = parts.1 in
         let form = form_width ds (digits_are (drop at s)) e in
         let w : Width n (length ds) = rw value at form.0 in
         let p : 10 ^ length ds ≤ 10 ^ 9 = pow-le-pow_right {n = 10} (lit< tt) form.1 in
@@ -193,7 +194,7 @@ pub length_field : (n : ℕ) (last : Bool) → length (field n last) ≡ length 
 length_field n last = length-append (decimal n) (separator last ∷ [])
 
 pub field_text : (n at : ℕ) (last : Bool) (s rest : List ℕ) → n < 10 ^ 9 → drop at s ≡ field n last ++ rest
-    → field_at s at last ≡ Value n (at + length (field n last))
+    → field_at s at last ≡ Some (n, at + length (field n last))
 unfolding field_at
 field_text n at last s rest h e =
     let parts : drop at s ≡ decimal n ++ (separator last ∷ rest) = e ∙ append_assoc (decimal n) (separator last ∷ []) rest in
@@ -211,10 +212,11 @@ pub record FieldThere (s : List ℕ) (at : ℕ) (last : Bool) (n next : ℕ) : T
 
 module _ (n at next : ℕ) (last : Bool) (s : List ℕ) where
   close_there : (v m : ℕ) → NumberThere s at v m → (t : Bool) → begins_with (separator last ∷ []) (drop m s) ≡ t
-      → cond t (Value v (m + 1)) NoNumber ≡ Value n next → FieldThere s at last n next
+      → cond {A = Option (ℕ × ℕ)} t (Some (v, m + 1)) None ≡ Some (n, next) → FieldThere s at last n next
   close_there v m r true e q =
-      let value : v ≡ n = cc in
-      let end : m + 1 ≡ next = cc in
+      let parts = some_parts q in
+      let value : v ≡ n = parts.0 in
+      let end : m + 1 ≡ next = parts.1 in
       let sep : drop m s ≡ separator last ∷ drop next s = (begins_split (separator last ∷ []) s m e).0 ∙ rw end refl in
       record {
         text = r.text ∙ rw (sep, value) (sym (append_assoc (decimal n) (separator last ∷ []) (drop next s)));
@@ -223,15 +225,15 @@ module _ (n at next : ℕ) (last : Bool) (s : List ℕ) where
       }
   close_there v m r false e q = let z : ◌≡◌ {A = ℕ} 0 1 = cc in absurd (omega arith)
 
-  pub field_split : field_at s at last ≡ Value n next → FieldThere s at last n next
+  pub field_split : field_at s at last ≡ Some (n, next) → FieldThere s at last n next
   unfolding field_at
   field_split = go (number_at s at) refl
     where
-      go : (r : NumberRead) → number_at s at ≡ r → closed s last r ≡ Value n next → FieldThere s at last n next
-      go NoNumber e q = let z : ◌≡◌ {A = ℕ} 0 1 = cc in absurd (omega arith)
-      go (Value v m) e q = close_there v m (number_split v at m s e) (begins_with (separator last ∷ []) (drop m s)) refl q
+      go : (r : Option (ℕ × ℕ)) → number_at s at ≡ r → closed s last r ≡ Some (n, next) → FieldThere s at last n next
+      go None e q = let z : ◌≡◌ {A = ℕ} 0 1 = cc in absurd (omega arith)
+      go (Some (v, m)) e q = close_there v m (number_split v at m s e) (begins_with (separator last ∷ []) (drop m s)) refl q
 
-  pub field_near : field_at s at last ≡ Value n next → (next ≤ at + 10) × (next ≤ length s)
+  pub field_near : field_at s at last ≡ Some (n, next) → (next ≤ at + 10) × (next ≤ length s)
   field_near e =
       let f = field_split e in
       let l = ap length f.text ∙ length-append (field n last) (drop next s) in
@@ -257,9 +259,9 @@ pub field_take : (k at : ℕ) (last : Bool) (s : List ℕ) → at + 10 ≤ k →
 unfolding field_at
 field_take k at last s h = ap (closed (take k s) last) (number_take k at s h) ∙ go (number_at s at) refl
   where
-    go : (r : NumberRead) → number_at s at ≡ r → closed (take k s) last r ≡ closed s last r
-    go NoNumber e = refl
-    go (Value v m) e =
+    go : (r : Option (ℕ × ℕ)) → number_at s at ≡ r → closed (take k s) last r ≡ closed s last r
+    go None e = refl
+    go (Some (v, m)) e =
         let there = number_split v at m s e in
         let few = length_decimal_small v there.small in
         rw (begins_take (separator last ∷ []) s k m (omega (arith, there.end))) refl

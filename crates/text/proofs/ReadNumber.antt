@@ -1,6 +1,7 @@
 -- A number is read digit by digit: what the digits from the start make is what the value so far and the digits that follow make, and the reader
--- counts the digits passed, so that where they end it knows the length and the value of all. Each byte is told by its class: a zero stands alone in
+-- counts the digits passed, so that where they end it knows the length and the value of all. A zero stands alone in
 -- front of its separator, any other digit begins a number, and a byte that is no digit ends one, with the separator that is asked for or without.
+use Rattle.std.specs.Prelude.{None, Some}
 use Prim.Native.Nat.{ℕ, ◌+◌, ◌-◌, ◌*◌, ◌^◌, ◌≤◌, ◌<◌}
 use native.Mathlib.Numerals.{add-one}
 use native.Mathlib.Nat.{pow-suc, pow-le-pow_right, zero-add}
@@ -15,11 +16,10 @@ use lib.Dec.{eqb, lit<}
 use borrow.Author.Tests.{le-leb, eqb-true, eqb-false, ne_eqb}
 use Rattle.text.specs.declared.ByteClass.{ByteClass}
 use Rattle.text.specs.declared.ByteClass.TheVariants.{Zero, Digit, Comma, LineEnd, Other}
-use Rattle.text.specs.declared.NumberRead.TheVariants.{Value, NoNumber}
 use Rattle.text.specs.Key.{begins_with}
 use Rattle.text.specs.Number.{is_digit, class_of, digits_of, value_of, well_formed, number_at, separator, closed, field_at}
 use Rattle.text.proofs.KeyLaws.{begins_split}
-use Rattle.text.proofs.NumberLaws.{digit_range, digit_test, separator_stops, long_form, zero_form, number_of_right, number_of_wrong}
+use Rattle.text.proofs.NumberLaws.{digit_range, separator_stops, long_form, zero_form, number_of_right, number_of_wrong}
 
 -- ---- what a class says of the byte
 abbrev Says : ByteClass → ℕ → Type 0
@@ -42,34 +42,6 @@ class_says b k e = rw e at (go (is_digit b) (eqb b 48) (eqb b 44) (eqb b 10) ref
     go false z true w p o q r = eqb-true b 44 q
     go false z false true p o q r = eqb-true b 10 r
     go false z false false p o q r = (p, eqb-false b 44 q, eqb-false b 10 r)
-
--- whether a byte of a class is a digit
-abbrev pub digit_by : ByteClass → Bool
-digit_by Zero = true
-digit_by (Digit d) = true
-digit_by Comma = false
-digit_by LineEnd = false
-digit_by Other = false
-
-pub digit_class : (b : ℕ) (k : ByteClass) → class_of b ≡ k → digit_by k ≡ is_digit b
-digit_class b k e = go k (class_says b k e)
-  where
-    go : (k : ByteClass) → Says k b → digit_by k ≡ is_digit b
-    go Zero h = rw h refl
-    go (Digit d) h = sym (digit_test b (omega arith) (omega arith))
-    go Comma h = rw h refl
-    go LineEnd h = rw h refl
-    go Other h = sym h.0
-
-pub no_digit : (b : ℕ) (k : ByteClass) → class_of b ≡ k → k ≢ Zero → ((d : ℕ) → k ≢ Digit d) → false ≡ is_digit b
-no_digit b k e zero_not digit_not = go k zero_not digit_not ∙ digit_class b k e
-  where
-    go : (k : ByteClass) → k ≢ Zero → ((d : ℕ) → k ≢ Digit d) → false ≡ digit_by k
-    go Zero z d = absurd (z refl)
-    go (Digit n) z d = absurd (d n refl)
-    go Comma z d = refl
-    go LineEnd z d = refl
-    go Other z d = refl
 
 -- ---- the digits that a list begins with, one step at a time
 digits_more : (s : List ℕ) (i : ℕ) → i < length s → is_digit (get_or s i 0) ≡ true
@@ -114,15 +86,6 @@ separator_ends : (s : List ℕ) (at : ℕ) (last : Bool) → begins_with (separa
 unfolding digits_of
 separator_ends s at last t = rw ((begins_split (separator last ∷ []) s at t).0, separator_stops last) refl
 
--- no digit is a separator
-separator_none : (s : List ℕ) (at : ℕ) (last : Bool) {d : ℕ} {ds : List ℕ} → digits_of (drop at s) ≡ d ∷ ds
-    → begins_with (separator last ∷ []) (drop at s) ≡ false
-separator_none s at last q = go (begins_with (separator last ∷ []) (drop at s)) refl
-  where
-    go : (t : Bool) → begins_with (separator last ∷ []) (drop at s) ≡ t → t ≡ false
-    go true e = let z = separator_ends s at last e in let o : ◌≡◌ {A = ℕ} 0 1 = cc in absurd (omega arith)
-    go false e = refl
-
 -- whether a byte of a class is the separator
 abbrev pub ends_by : Bool → ByteClass → Bool
 ends_by last Zero = false
@@ -158,39 +121,43 @@ separated_class s at last k l e =
 
 -- ---- a number with its separator, by the digits at the position
 module _ (s : List ℕ) (at : ℕ) (last : Bool) where
-  field_none : well_formed (digits_of (drop at s)) ≡ false → NoNumber ≡ field_at s at last
+  field_none : well_formed (digits_of (drop at s)) ≡ false → None ≡ field_at s at last
   unfolding field_at
   field_none e = rw (number_of_wrong (digits_of (drop at s)) at e) refl
 
   -- no digit stands there
-  pub field_nothing : digits_of (drop at s) ≡ [] → NoNumber ≡ field_at s at last
+  pub field_nothing : digits_of (drop at s) ≡ [] → None ≡ field_at s at last
   field_nothing e = field_none (rw e refl)
 
   -- one digit
-  field_digit : (d : ℕ) → digits_of (drop at s) ≡ d ∷ [] → closed s last (Value d (at + 1)) ≡ field_at s at last
+  field_digit : (d : ℕ) → digits_of (drop at s) ≡ d ∷ [] → closed s last (Some (d, at + 1)) ≡ field_at s at last
   unfolding field_at value_of
   field_digit d e = rw (e, zero-add) refl
 
   module _ (l : at < length s) where
     -- a zero stands alone
-    pub field_zero : class_of (get_or s at 0) ≡ Zero → closed s last (Value 0 (at + 1)) ≡ field_at s at last
-    field_zero e = go (digits_of (drop (at + 1) s)) refl
+    field_lone : get_or s at 0 ≡ 48 → begins_with (separator last ∷ []) (drop (at + 1) s) ≡ false → None ≡ field_at s at last
+    field_lone e t = go (digits_of (drop (at + 1) s)) refl
       where
         first : digits_of (drop at s) ≡ 0 ∷ digits_of (drop (at + 1) s)
-        first = digits_more s at l (sym (digit_class (get_or s at 0) Zero e)) ∙ rw (class_says (get_or s at 0) Zero e) refl
+        first = digits_more s at l (rw e refl) ∙ rw e refl
 
-        go : (ds : List ℕ) → digits_of (drop (at + 1) s) ≡ ds → closed s last (Value 0 (at + 1)) ≡ field_at s at last
-        go [] q = field_digit 0 (first ∙ rw q refl)
+        go : (ds : List ℕ) → digits_of (drop (at + 1) s) ≡ ds → None ≡ field_at s at last
+        go [] q = rw t at (field_digit 0 (first ∙ rw q refl))
         go (d ∷ ds) q =
             let more : 2 ≤ length (digits_of (drop at s)) = omega (arith, ap length first, ap length q) in
-            rw (separator_none s (at + 1) last q) (field_none (zero_form (digits_of (drop at s)) more (ap (λ (l : List ℕ). get_or l 0 0) first)))
+            field_none (zero_form (digits_of (drop at s)) more (ap (λ (l : List ℕ). get_or l 0 0) first))
 
     -- a digit with its separator
     pub field_one : is_digit (get_or s at 0) ≡ true → begins_with (separator last ∷ []) (drop (at + 1) s) ≡ true
-        → Value (get_or s at 0 - 48) (at + 2) ≡ field_at s at last
+        → Some (get_or s at 0 - 48, at + 2) ≡ field_at s at last
     field_one d t =
         let two : at + 1 + 1 ≡ at + 2 = omega arith in
         rw (t, two) at (field_digit (get_or s at 0 - 48) (digits_more s at l d ∙ rw (separator_ends s (at + 1) last t) refl))
+
+    -- a zero with more behind it
+    pub field_zero : class_of (get_or s at 0) ≡ Zero → begins_with (separator last ∷ []) (drop (at + 1) s) ≡ false → None ≡ field_at s at last
+    field_zero e t = field_lone (class_says (get_or s at 0) Zero e) t
 
 -- ---- the state of a reader that began at `at` with a digit from 1 on, and that stands behind the digits up to i, whose value is v
 pub record Run (s : List ℕ) (at v i : ℕ) : Type 0 where
@@ -201,11 +168,11 @@ pub record Run (s : List ℕ) (at v i : ℕ) : Type 0 where
   pub value : value_of 0 (digits_of (drop at s)) ≡ value_of v (digits_of (drop i s))
   pub lead : 0 < get_or (digits_of (drop at s)) 0 0
 
-pub run_start : (s : List ℕ) (at d : ℕ) → at < length s → class_of (get_or s at 0) ≡ Digit d → Run s at d (at + 1)
-run_start s at d l e =
-    let h = class_says (get_or s at 0) (Digit d) e in
-    let value : get_or s at 0 - 48 ≡ d = omega arith in
-    let m = rw value at (digits_more s at l (sym (digit_class (get_or s at 0) (Digit d) e))) in
+pub run_start : (s : List ℕ) (at : ℕ) → at < length s → is_digit (get_or s at 0) ≡ true → get_or s at 0 ≢ 48 → Run s at (get_or s at 0 - 48) (at + 1)
+run_start s at l t e =
+    let d = get_or s at 0 - 48 in
+    let h = digit_range (get_or s at 0) t in
+    let m = digits_more s at l t in
     let one : at + 1 - at ≡ 1 = omega arith in
     record {
       from = omega arith;
@@ -213,7 +180,7 @@ run_start s at d l e =
       small = rw one (omega arith);
       count = omega (arith, ap length m);
       value = rw m (value_more 0 d (digits_of (drop (at + 1) s)) ∙ rw zero-add refl);
-      lead = rw m h.1;
+      lead = rw m (omega arith);
     }
 
 module _ (s : List ℕ) (at v i : ℕ) (r : Run s at v i) where
@@ -235,11 +202,11 @@ module _ (s : List ℕ) (at v i : ℕ) (r : Run s at v i) where
         }
 
     -- a tenth digit
-    pub run_long : (last : Bool) → i - at ≡ 9 → NoNumber ≡ field_at s at last
+    pub run_long : (last : Bool) → i - at ≡ 9 → None ≡ field_at s at last
     run_long last n = field_none s at last (long_form (digits_of (drop at s)) (omega (arith, ap length (digits_more s i l t))))
 
   -- where the digits end, they make a number
-  run_number : digits_of (drop i s) ≡ [] → number_at s at ≡ Value v i
+  run_number : digits_of (drop i s) ≡ [] → number_at s at ≡ Some (v, i)
   run_number e = number_of_right ds at form ∙ rw (value, end) refl
     where
       ds : List ℕ
@@ -258,9 +225,16 @@ module _ (s : List ℕ) (at v i : ℕ) (r : Run s at v i) where
 
   -- and with the separator behind them a field
   module _ (last : Bool) where
-    pub run_closed : digits_of (drop i s) ≡ [] → closed s last (Value v i) ≡ field_at s at last
+    run_field : digits_of (drop i s) ≡ [] → closed s last (Some (v, i)) ≡ field_at s at last
     unfolding field_at
-    run_closed e = rw (run_number e) refl
+    run_field e = rw (run_number e) refl
 
-    pub run_end : length s ≤ i → NoNumber ≡ field_at s at last
-    run_end l = rw (← separated_short s i last l) at (run_closed (digits_end s i l))
+    pub run_closed : digits_of (drop i s) ≡ [] → begins_with (separator last ∷ []) (drop i s) ≡ true → Some (v, i + 1) ≡ field_at s at last
+    run_closed e t = rw t at (run_field e)
+
+    -- or without
+    pub run_open : digits_of (drop i s) ≡ [] → begins_with (separator last ∷ []) (drop i s) ≡ false → None ≡ field_at s at last
+    run_open e t = rw t at (run_field e)
+
+    pub run_end : length s ≤ i → None ≡ field_at s at last
+    run_end l = run_open (digits_end s i l) (sym (separated_short s i last l))

@@ -5,9 +5,10 @@ use native.Mathlib.Omega.{arith}
 use mathlib.Core.List.{List, [], ◌∷◌, ◌++◌, append_assoc}
 use mathlib.Core.Logic.{◌⊎◌, inl, inr}
 use mathlib.Core.Path.{◌≡◌, refl, ap, ◌∙◌}
-use lib.ListN.{length}
-use Rattle.laws.specs.Writing.{Puts, puts_none, puts_then, puts_length}
+use Rattle.text.specs.declared.Writer.{Writer}
+use Rattle.text.specs.Writer.{Writes}
 use Rattle.text.specs.Decimal.{digits, width, decimal}
+use Rattle.text.proofs.Writing.{writes_none, writes_then}
 use Rattle.text.proofs.DecimalLaws.{Width, width_unique, width_right, width_most, decimal_wide, digits_first, digits_one}
 
 -- ---- A power p that was subtracted d times from v, where `left` is left.
@@ -54,32 +55,30 @@ decimal_three n c low d left h e e' =
     ∙ digits_first 2 n c low e.0 e.1
     ∙ ap (λ (t : List ℕ). (48 + c) ∷ t) (digits_two low d left e')
 
--- ---- The state of the writer: it has put the digits of n that stand before the last k + 1, and those are the digits of `left`.
+-- ---- The state of a writer: it has put the digits of n that stand before the last k + 1, and those are the digits of `left`.
 
-pub record PuttingDigits (n : ℕ) (s : List ℕ) (at : ℕ) (out : List ℕ) (to left k : ℕ) : Type 0 where
+pub record WritesDigits (n : ℕ) (start now : Writer) (left k : ℕ) : Type 0 where
   pub before : List ℕ
   pub all : decimal n ≡ before ++ digits (suc k) left
   pub few : k ≤ 19
   pub small : left < 10 ^ suc k
-  pub long : length out ≡ length s
-  pub puts : Puts s at before to out
+  pub writes : Writes start before now
 
-pub digits_start : (n : ℕ) (s : List ℕ) (at k : ℕ) → n < 10 ^ 20 → suc k ≡ width 19 n → PuttingDigits n s at s at n k
-digits_start n s at k h e =
-    let w : Width n (suc k) = rw e (width_right 19 n h) in
+pub digits_start : (n : ℕ) (w : Writer) (k : ℕ) → n < 10 ^ 20 → suc k ≡ width 19 n → WritesDigits n w w n k
+digits_start n w k h e =
+    let wide : Width n (suc k) = rw e (width_right 19 n h) in
     record {
       before = [];
-      all = decimal_wide n (suc k) w h;
+      all = decimal_wide n (suc k) wide h;
       few = omega (arith, width_most 19 n);
-      small = w.enough;
-      long = refl;
-      puts = puts_none s at;
+      small = wide.enough;
+      writes = writes_none w;
     }
 
-module _ {n : ℕ} {s : List ℕ} {at : ℕ} {out : List ℕ} {to left k : ℕ} (w : PuttingDigits n s at out to left k) where
+module _ {n : ℕ} {start now : Writer} {left k : ℕ} (w : WritesDigits n start now left k) where
   -- one digit more
-  pub digits_more : (d rest : ℕ) {to' : ℕ} {out' : List ℕ} →
-      0 < k → left ≡ d * 10 ^ k + rest → rest < 10 ^ k → Puts out to ((48 + d) ∷ []) to' out' → PuttingDigits n s at out' to' rest (k - 1)
+  pub digits_more : (d rest : ℕ) {after : Writer} →
+      0 < k → left ≡ d * 10 ^ k + rest → rest < 10 ^ k → Writes now ((48 + d) ∷ []) after → WritesDigits n start after rest (k - 1)
   digits_more d rest h e l p =
       let same : suc (k - 1) ≡ k = omega arith in
       record {
@@ -87,15 +86,14 @@ module _ {n : ℕ} {s : List ℕ} {at : ℕ} {out : List ℕ} {to left k : ℕ} 
         all = w.all ∙ rw (digits_first k left d rest e l, same, append_assoc) refl;
         few = omega (arith, w.few);
         small = rw same l;
-        long = puts_length p ∙ w.long;
-        puts = puts_then w.puts p;
+        writes = writes_then w.writes p;
       }
 
   -- a single digit is left at the end
   pub digits_last : k ≤ 0 → left < 10
   digits_last h = let none : k ≡ 0 = omega arith in rw none at w.small
 
-  pub digits_done : {to' : ℕ} {out' : List ℕ} → k ≤ 0 → Puts out to ((48 + left) ∷ []) to' out' → Puts s at (decimal n) to' out'
+  pub digits_done : {after : Writer} → k ≤ 0 → Writes now ((48 + left) ∷ []) after → Writes start (decimal n) after
   digits_done h p =
       let none : k ≡ 0 = omega arith in
-      rw (w.all, none, digits_one left) (puts_then w.puts p)
+      rw (w.all, none, digits_one left) (writes_then w.writes p)

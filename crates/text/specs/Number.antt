@@ -1,9 +1,7 @@
 -- Document 01, "Cards": a number is one to nine decimal digits without a leading zero, 0 itself excepted.
-use Rattle.std.specs.Prelude.{ℕ, ◌+◌, ◌-◌, ◌*◌, List, [], ◌∷◌, Bool, not, cond, ◌&&◌, ◌||◌, length, get_or, drop, leb, eqb}
+use Rattle.std.specs.Prelude.{ℕ, ◌+◌, ◌-◌, ◌*◌, List, [], ◌∷◌, Bool, not, cond, ◌&&◌, ◌||◌, length, get_or, drop, leb, eqb, None, Option, Some}
 use Rattle.text.specs.declared.ByteClass.{ByteClass}
 use Rattle.text.specs.declared.ByteClass.TheVariants.{Zero, Digit, Comma, LineEnd, Other}
-use Rattle.text.specs.declared.NumberRead.{NumberRead}
-use Rattle.text.specs.declared.NumberRead.TheVariants.{Value, NoNumber}
 use Rattle.text.specs.Key.{begins_with}
 
 -- the byte of a decimal digit
@@ -29,11 +27,11 @@ abbrev pub well_formed : List ℕ → Bool
 well_formed ds = leb 1 (length ds) && leb (length ds) 9 && (eqb (length ds) 1 || not (eqb (get_or ds 0 0) 0))
 
 -- the number that the digits from a position on make, and the position behind it
-abbrev pub read_digits : List ℕ → ℕ → NumberRead
-read_digits ds at = cond (well_formed ds) (Value (value_of 0 ds) (at + length ds)) NoNumber
+abbrev pub read_digits : List ℕ → ℕ → Option (ℕ × ℕ)
+read_digits ds at = cond (well_formed ds) (Some (value_of 0 ds, at + length ds)) None
 
 -- the number that stands at a position, and the position behind it
-abbrev pub number_at : List ℕ → ℕ → NumberRead
+abbrev pub number_at : List ℕ → ℕ → Option (ℕ × ℕ)
 number_at s at = read_digits (digits_of (drop at s)) at
 
 -- what stands behind a number: a comma between the numbers of a list, and byte 10 behind the last of a line
@@ -41,10 +39,10 @@ abbrev pub separator : Bool → ℕ
 separator last = cond last 10 44
 
 -- a number counts where its separator stands behind it
-abbrev pub closed : List ℕ → Bool → NumberRead → NumberRead
-closed s last NoNumber = NoNumber
-closed s last (Value v next) = cond (begins_with (separator last ∷ []) (drop next s)) (Value v (next + 1)) NoNumber
+abbrev pub closed : List ℕ → Bool → Option (ℕ × ℕ) → Option (ℕ × ℕ)
+closed s last None = None
+closed s last (Some (v, next)) = cond (begins_with (separator last ∷ []) (drop next s)) (Some (v, next + 1)) None
 
 -- the number that stands at a position with its separator, and the position behind both
-unfoldable pub field_at : List ℕ → ℕ → Bool → NumberRead
+unfoldable pub field_at : List ℕ → ℕ → Bool → Option (ℕ × ℕ)
 field_at s at last = closed s last (number_at s at)

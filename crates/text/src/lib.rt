@@ -1,16 +1,14 @@
-// The bytes of a card: keys, words and decimal numbers, compared or read at a position and written to a position.
+// The bytes of a card: keys, words and decimal numbers, compared or read at a position and written behind one another.
 #![tactic(auto)]
 
-ghost use Rattle.std.specs.Prelude.{◌≡◌, suc, ◌+◌, ◌*◌, ◌^◌, ◌≤◌, ◌<◌, [], ◌∷◌, length, get_or, drop};
-ghost use Rattle.laws.specs.Writing.{Puts};
-ghost use Rattle.text.specs.declared.ByteClass.TheVariants.{Digit};
-ghost use Rattle.text.specs.declared.NumberRead.TheVariants.{Value};
+ghost use Rattle.std.specs.Prelude.{◌≡◌, ◌≢◌, suc, true, ◌+◌, ◌*◌, ◌^◌, ◌≤◌, ◌<◌, [], ◌∷◌, length, get_or, drop};
 ghost use Rattle.text.specs.Key.{begins_with};
-ghost use Rattle.text.specs.Number.{is_digit, class_of, separator, closed, field_at};
+ghost use Rattle.text.specs.Number.{is_digit, class_of, separator, field_at};
 ghost use Rattle.text.specs.Decimal.{width, decimal, field};
+ghost use Rattle.text.specs.Writer.{Writes};
 
 // What a byte is to a reader of cards; the digits from 1 on with their value.
-#[derive(Clone, Copy)]
+#[derive(Clone, Copy, PartialEq, Eq)]
 enum ByteClass {
     Zero,
     Digit(u8),
@@ -19,21 +17,22 @@ enum ByteClass {
     Other,
 }
 
-// The class of a byte.
+// The class of a byte. The classes are asked in the order in which they occur, a digit before a zero, so that no branch hangs on the value of a weight: with
+// an arm for each a large card took two fifths longer.
 fn class_of(b: u8) -> ByteClass
     ensures { result ≡ class_of b }
 {
     match b {
-        48..=57 => {
-            if b == 48 {
+        b'0'..=b'9' => {
+            if b == b'0' {
                 ByteClass::Zero
             } else {
-                ByteClass::Digit(b - 48)
+                ByteClass::Digit(b - b'0')
             }
         }
         _ => match b {
-            44 => ByteClass::Comma,
-            10 => ByteClass::LineEnd,
+            b',' => ByteClass::Comma,
+            b'\n' => ByteClass::LineEnd,
             _ => ByteClass::Other,
         },
     }
@@ -43,86 +42,14 @@ fn class_of(b: u8) -> ByteClass
 fn is_digit(b: u8) -> bool
     ensures { result ≡ is_digit b }
 {
-    let c = class_of(b);
-    match c {
-        ByteClass::Zero => true,
-        ByteClass::Digit(_) => true,
-        _ => false,
-    }
+    matches!(class_of(b), ByteClass::Zero | ByteClass::Digit(_))
 }
 
-// A number and the position behind it, or that no number of the right form stands there.
-#[derive(Clone, Copy)]
-pub enum NumberRead {
-    Value { value: u32, next: usize },
-    NoNumber,
-}
-
-// The number that stands at a position, one to nine digits without a leading zero, with its separator: a line end behind the last of a line, else a comma.
-pub fn field_at(s: &[u8], at: usize, last: bool) -> NumberRead
-    ensures { result ≡ field_at s.now at last }
+// What stands behind a number.
+fn separator_of(last: bool) -> u8
+    ensures { result ≡ separator last }
 {
-    if s.len() <= at {
-        return NumberRead::NoNumber;
-    }
-    let c = class_of(s[at]);
-    match c {
-        ByteClass::Zero => closed(s, at + 1, 0, last),
-        ByteClass::Digit(first) => number_from(s, at, first, last),
-        _ => NumberRead::NoNumber,
-    }
-}
-
-// The same, and quicker where the number has one digit, as most weights of a net.
-pub fn item_at(s: &[u8], at: usize, last: bool) -> NumberRead
-    ensures { result ≡ field_at s.now at last }
-{
-    if s.len() <= at {
-        return NumberRead::NoNumber;
-    }
-    if !is_digit(s[at]) {
-        return NumberRead::NoNumber;
-    }
-    if separated(s, at + 1, last) {
-        return NumberRead::Value {
-            value: (s[at] - 48) as u32,
-            next: at + 2,
-        };
-    }
-    field_at(s, at, last)
-}
-
-// The number that begins with a digit other than 0.
-fn number_from(s: &[u8], at: usize, first: u8, last: bool) -> NumberRead
-    requires { (at < length s.now) × (class_of (get_or s.now at 0) ≡ Digit first) }
-    ensures { result ≡ field_at s.now at last }
-{
-    let mut v = first as u32;
-    let mut i: usize = at + 1;
-    while i < s.len() {
-        if !is_digit(s[i]) {
-            return closed(s, i, v, last);
-        }
-        if i - at == 9 {
-            return NumberRead::NoNumber;
-        }
-        v = v * 10 + (s[i] - 48) as u32;
-        i += 1;
-    }
-    NumberRead::NoNumber
-}
-
-// A number whose digits end at a position, if its separator stands there.
-fn closed(s: &[u8], at: usize, value: u32, last: bool) -> NumberRead
-    ensures { result ≡ closed s.now last (Value value at) }
-{
-    if separated(s, at, last) {
-        return NumberRead::Value {
-            value,
-            next: at + 1,
-        };
-    }
-    NumberRead::NoNumber
+    if last { b'\n' } else { b',' }
 }
 
 // Whether the separator stands at a position.
@@ -132,78 +59,60 @@ fn separated(s: &[u8], at: usize, last: bool) -> bool
     if s.len() <= at {
         return false;
     }
-    let c = class_of(s[at]);
-    match c {
+    match class_of(s[at]) {
         ByteClass::LineEnd => last,
         ByteClass::Comma => !last,
         _ => false,
     }
 }
 
+// The number that stands at a position, one to nine digits without a leading zero, with its separator: a line end behind the last of a line, else a comma.
+// And the position behind both. Most weights of a net have one digit, so that is looked for first, and for a zero as for any other digit.
+pub fn field_at(s: &[u8], at: usize, last: bool) -> Option<(u32, usize)>
+    ensures { result ≡ field_at s.now at last }
+{
+    if s.len() <= at || !is_digit(s[at]) {
+        return None;
+    }
+    if separated(s, at + 1, last) {
+        return Some(((s[at] - b'0') as u32, at + 2));
+    }
+    match class_of(s[at]) {
+        ByteClass::Zero => None,
+        _ => number_from(s, at, last),
+    }
+}
+
+// The number that begins with a digit other than 0.
+fn number_from(s: &[u8], at: usize, last: bool) -> Option<(u32, usize)>
+    requires { (at < length s.now) × (is_digit (get_or s.now at 0) ≡ true) × (get_or s.now at 0 ≢ 48) }
+    ensures { result ≡ field_at s.now at last }
+{
+    let mut v = (s[at] - 48) as u32;
+    for i in at + 1..s.len() {
+        if !is_digit(s[i]) {
+            return if separated(s, i, last) {
+                Some((v, i + 1))
+            } else {
+                None
+            };
+        }
+        if i - at == 9 {
+            return None;
+        }
+        v = v * 10 + (s[i] - 48) as u32;
+    }
+    None
+}
+
 // Whether a key stands at a position.
 pub fn begins_at(s: &[u8], at: usize, key: &[u8]) -> bool
     ensures { result ≡ begins_with key.now (drop at s.now) }
 {
-    if s.len() <= at {
-        return key.len() == 0;
+    if s.len() < at {
+        return key.is_empty();
     }
-    if s.len() - at < key.len() {
-        return false;
-    }
-    let mut i: usize = 0;
-    'bytes: while i < key.len() {
-        if s[at + i] != key[i] {
-            return false;
-        }
-        i += 1;
-    }
-    true
-}
-
-// What stands behind a number.
-fn separator_of(last: bool) -> u8
-    ensures { result ≡ separator last }
-{
-    if last { 10 } else { 44 }
-}
-
-// The writers below ask for no room: what does not fit is not written, and the position behind it then stands one past the end and stays there.
-
-// A byte written at a position; the position behind it.
-pub fn put_byte(out: &mut [u8], at: usize, b: u8) -> usize
-    ensures { Puts out.old at (b ∷ []) result out.new }
-{
-    if at < out.len() {
-        out[at] = b;
-        return at + 1;
-    }
-    out.len() + 1
-}
-
-// A text copied to a position; the position behind it.
-pub fn put_bytes(out: &mut [u8], at: usize, text: &[u8]) -> usize
-    ensures { Puts out.old at text.now result out.new }
-{
-    if at <= out.len() {
-        if text.len() <= out.len() - at {
-            out[at..at + text.len()].copy_from_slice(text);
-            return at + text.len();
-        }
-    }
-    put_each(out, at, text)
-}
-
-// The same of a text that may not fit, byte by byte.
-fn put_each(out: &mut [u8], at: usize, text: &[u8]) -> usize
-    ensures { Puts out.old at text.now result out.new }
-{
-    let mut to = at;
-    let mut i: usize = 0;
-    while i < text.len() {
-        to = put_byte(&mut *out, to, text[i]);
-        i += 1;
-    }
-    to
+    s[at..].starts_with(key)
 }
 
 // The k-th power of ten.
@@ -278,98 +187,116 @@ fn digit_at(v: u64, k: usize) -> Subtracted
 fn highest(n: u64) -> usize
     ensures { suc result ≡ width 19 n }
 {
-    let mut k: usize = 0;
-    while k < 19 {
+    for k in 0..19 {
         if n < power(k + 1) {
             return k;
         }
-        k += 1;
     }
-    k
+    19
 }
 
-// A number written at a position, its highest digit first; the position behind it.
-pub fn put_number(out: &mut [u8], at: usize, n: u64) -> usize
-    ensures { Puts out.old at (decimal n) result out.new }
-{
-    if n < 10 {
-        return put_byte(out, at, (48 + n) as u8);
-    }
-    if n < 100 {
-        return put_two(out, at, n);
-    }
-    put_digits(out, at, n)
+// An output and the position of its next byte. The methods ask for no room: what does not fit is not written, and the position then stands one past the end
+// and stays there.
+#[derive(Drop)]
+pub struct Writer<'a> {
+    pub out: &'a mut [u8],
+    pub at: usize,
 }
 
-// The same, of a number of two digits: both at once where they fit.
-fn put_two(out: &mut [u8], at: usize, n: u64) -> usize
-    requires { (10 ≤ n) × (n < 100) }
-    ensures { Puts out.old at (decimal n) result out.new }
-{
-    if at < out.len() {
-        if 2 <= out.len() - at {
-            let d = subtract(n, 10);
-            out[at] = 48 + d.times;
-            out[at + 1] = (48 + d.left) as u8;
-            return at + 2;
+impl<'a> Writer<'a> {
+    // A writer at the front of an output.
+    pub fn new(out: &'a mut [u8]) -> Writer<'a>
+        ensures { (result.out.ghost_name ≡ out.entry.ghost_name) × (result.out.now ≡ out.old) × (result.at ≡ 0) }
+    {
+        Writer { out, at: 0 }
+    }
+
+    // A byte.
+    pub fn put_byte(&mut self, b: u8)
+        ensures { Writes self.old (b ∷ []) self.new }
+    {
+        if self.at < self.out.len() {
+            self.out[self.at] = b;
+            self.at += 1;
+        } else {
+            self.at = self.out.len() + 1;
         }
     }
-    put_digits(out, at, n)
-}
 
-// The same, of any number: each digit is how often its power of ten can be subtracted from what the digits before it have left.
-fn put_digits(out: &mut [u8], at: usize, n: u64) -> usize
-    ensures { Puts out.old at (decimal n) result out.new }
-{
-    if 100 <= n {
-        if n < 1000 {
-            return put_three(out, at, n);
+    // A text, copied where it fits.
+    pub fn put_bytes(&mut self, text: &[u8])
+        ensures { Writes self.old text.now self.new }
+    {
+        let at = self.at;
+        if at <= self.out.len() && text.len() <= self.out.len() - at {
+            self.out[at..at + text.len()].copy_from_slice(text);
+            self.at = at + text.len();
+            return;
+        }
+        for b in text {
+            self.put_byte(*b);
         }
     }
-    let mut to = at;
-    let mut left = n;
-    let mut k = highest(n);
-    while 0 < k {
-        let d = digit_at(left, k);
-        to = put_byte(&mut *out, to, 48 + d.times);
-        left = d.left;
-        k -= 1;
-    }
-    put_byte(out, to, (48 + left) as u8)
-}
 
-// The same, of a number of three digits, as larger weights and tokens have.
-fn put_three(out: &mut [u8], at: usize, n: u64) -> usize
-    requires { (100 ≤ n) × (n < 1000) }
-    ensures { Puts out.old at (decimal n) result out.new }
-{
-    let hundreds = subtract(n, 100);
-    let tens = subtract(hundreds.left, 10);
-    let second = put_byte(&mut *out, at, 48 + hundreds.times);
-    let third = put_byte(&mut *out, second, 48 + tens.times);
-    put_byte(out, third, (48 + tens.left) as u8)
-}
-
-// A number and its separator written at a position; the position behind both.
-pub fn put_field(out: &mut [u8], at: usize, n: u64, last: bool) -> usize
-    ensures { Puts out.old at (field n last) result out.new }
-{
-    let to = put_number(&mut *out, at, n);
-    put_byte(out, to, separator_of(last))
-}
-
-// The same, and quicker where the number has one digit, as most weights of a net.
-pub fn put_item(out: &mut [u8], at: usize, n: u64, last: bool) -> usize
-    ensures { Puts out.old at (field n last) result out.new }
-{
-    if n < 10 {
-        if at < out.len() {
-            if 2 <= out.len() - at {
-                out[at] = (48 + n) as u8;
-                out[at + 1] = separator_of(last);
-                return at + 2;
-            }
+    // A number, its highest digit first.
+    pub fn put_number(&mut self, n: u64)
+        ensures { Writes self.old (decimal n) self.new }
+    {
+        match n {
+            0..=9 => self.put_byte((48 + n) as u8),
+            10..=99 => self.put_two(n),
+            100..=999 => self.put_three(n),
+            _ => self.put_digits(n),
         }
     }
-    put_field(out, at, n, last)
+
+    // A number of two digits.
+    fn put_two(&mut self, n: u64)
+        requires { (10 ≤ n) × (n < 100) }
+        ensures { Writes self.old (decimal n) self.new }
+    {
+        let tens = subtract(n, 10);
+        self.put_byte(48 + tens.times);
+        self.put_byte((48 + tens.left) as u8);
+    }
+
+    // A number of three digits, as larger weights and tokens have.
+    fn put_three(&mut self, n: u64)
+        requires { (100 ≤ n) × (n < 1000) }
+        ensures { Writes self.old (decimal n) self.new }
+    {
+        let hundreds = subtract(n, 100);
+        let tens = subtract(hundreds.left, 10);
+        self.put_byte(48 + hundreds.times);
+        self.put_byte(48 + tens.times);
+        self.put_byte((48 + tens.left) as u8);
+    }
+
+    // Any number: each digit is how often its power of ten can be subtracted from what the digits before it have left.
+    fn put_digits(&mut self, n: u64)
+        ensures { Writes self.old (decimal n) self.new }
+    {
+        let mut left = n;
+        for k in (1..=highest(n)).rev() {
+            let d = digit_at(left, k);
+            self.put_byte(48 + d.times);
+            left = d.left;
+        }
+        self.put_byte((48 + left) as u8);
+    }
+
+    // A number and its separator. Most weights of a net have one digit, so that is looked for first.
+    pub fn put_field(&mut self, n: u64, last: bool)
+        ensures { Writes self.old (field n last) self.new }
+    {
+        let at = self.at;
+        if n < 10 && at < self.out.len() && 2 <= self.out.len() - at {
+            self.out[at] = (48 + n) as u8;
+            self.out[at + 1] = separator_of(last);
+            self.at = at + 2;
+            return;
+        }
+        self.put_number(n);
+        self.put_byte(separator_of(last));
+    }
 }

@@ -1,5 +1,7 @@
 -- A run is accepted exactly when the tokens allow its order and its instants meet the windows: along the run, a clock's last restart is the instant
 -- of the firing that the order's state names, so that the clock is Si − So. For any restart rule.
+use Rattle.reply.specs.Respond.{Checked, Passed}
+use Rattle.std.specs.Prelude.{Err, None, Option, Some}
 use Prim.Native.Nat.{ℕ, zero, suc, ◌+◌, ◌-◌, ◌≤◌, ◌<◌, suc-le-suc}
 use native.Mathlib.Nat.{add-zero, zero-add, add-suc, suc-add, not-suc-le-zero, le_of_suc-le-suc}
 use native.Mathlib.Numerals.{add-one}
@@ -11,11 +13,7 @@ use mathlib.Core.Logic.{◌↔◌}
 use mathlib.Core.List.{List, [], ◌∷◌}
 use lib.ListN.{length, get_or, length-map}
 use Rattle.reply.specs.declared.Refusal.TheVariants.{NotEnabled, TooManyTokens}
-use Rattle.reply.specs.declared.Checked.{Checked}
-use Rattle.reply.specs.declared.Checked.TheVariants.{Passed, Refused}
 use Rattle.form.proofs.Found.{also_first, also_second}
-use Rattle.net.specs.declared.Latest.{Latest}
-use Rattle.net.specs.declared.Latest.TheVariants.{Unbounded, Ticks}
 use Rattle.net.specs.declared.Net.{Net}
 use Rattle.run.specs.declared.Firing.{Firing}
 use Rattle.firing.specs.declared.State.{State}
@@ -48,16 +46,16 @@ pub record Along (S : ℕ → ℕ) (k : ℕ) (st course : State) : Type 0 where
   pub at_instant : st.now ≡ S k
   pub restarted : (u : ℕ) → get_or st.since u 0 ≡ S (get_or course.since u 0)
 
-within_latest : (D : ℕ) (l : Latest) (x y : ℕ) → x ≤ y → NotAfter D l (y - x) ↔ Within D (upper_of l) x y
-within_latest D Unbounded x y h = (λ e. tt, λ e. tt)
-within_latest D (Ticks b) x y h = (λ e. omega arith, λ e. omega arith)
+within_latest : (D : ℕ) (l : Option ℕ) (x y : ℕ) → x ≤ y → NotAfter D l (y - x) ↔ Within D (upper_of l) x y
+within_latest D None x y h = (λ e. tt, λ e. tt)
+within_latest D (Some b) x y h = (λ e. omega arith, λ e. omega arith)
 
 pub tokens_passed : (net : Net) (m : List ℕ) (t n : ℕ) → tokens_judged net m t n ≡ Passed → (enabled (arcs_of net) m t ≡ true) × (limited (arcs_of net) m t ≡ true)
 unfolding tokens_judged
 tokens_passed net m t n = go (enabled (arcs_of net) m t) (limited (arcs_of net) m t) refl refl
   where
     go : (a b : Bool) → enabled (arcs_of net) m t ≡ a → limited (arcs_of net) m t ≡ b
-        → cond a (cond b Passed (Refused (TooManyTokens n))) (Refused (NotEnabled n)) ≡ Passed
+        → cond a (cond b Passed (Err (TooManyTokens n))) (Err (NotEnabled n)) ≡ Passed
         → (enabled (arcs_of net) m t ≡ true) × (limited (arcs_of net) m t ≡ true)
     go true true p q e = (p, q)
     go true false p q e = absurd (refused_not e)
@@ -111,7 +109,7 @@ module _ (net : Net) (restarts : Restart) (D : ℕ) (S : ℕ → ℕ) (k : ℕ) 
 -- ---- whole runs
 pub step_passed : (c : Checked) (st : State) (later : Played) → (step_on c st later).checked ≡ Passed → (c ≡ Passed) × (later.checked ≡ Passed)
 step_passed Passed st later e = (refl, e)
-step_passed (Refused r) st later e = absurd (refused_not e)
+step_passed (Err r) st later e = absurd (refused_not e)
 
 module _ (net : Net) (restarts : Restart) (D : ℕ) (S : ℕ → ℕ) where
   meet : (fs : List Firing) (k n : ℕ) (st course : State) → Sound st → Sound course → Along S k st course → Follows S k fs

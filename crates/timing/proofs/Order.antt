@@ -1,5 +1,7 @@
 -- What holds of the windows of every order, for any restart rule: a clock restarts in the past, so each window is measured from an earlier firing; the
 -- bounds are those of the fired transition; and neither windows nor tokens of the first firings depend on those that follow.
+use Rattle.reply.specs.Respond.{Passed}
+use Rattle.std.specs.Prelude.{None, Option, Some}
 use Prim.Native.Nat.{ℕ, zero, suc, ◌+◌, ◌≤◌, ◌<◌}
 use native.Mathlib.Nat.{le_of_suc-le-suc, not-suc-le-zero}
 use native.Mathlib.Omega.{arith}
@@ -7,10 +9,7 @@ use mathlib.Core.Path.{◌≡◌, refl, ap, subst⁻¹}
 use mathlib.Core.List.{List, [], ◌∷◌}
 use lib.ListN.{length, get_or, take}
 use Rattle.laws.specs.Each.{Each, each_at}
-use Rattle.reply.specs.declared.Checked.TheVariants.{Passed}
 use Rattle.form.proofs.Found.{also_first, also_second}
-use Rattle.net.specs.declared.Latest.{Latest}
-use Rattle.net.specs.declared.Latest.TheVariants.{Unbounded, Ticks}
 use Rattle.net.specs.declared.Net.{Net}
 use Rattle.firing.specs.declared.State.{State}
 use Rattle.firing.specs.Semantics.{arcs_of, Restart, transition_at, start_marking, after}
@@ -23,9 +22,9 @@ use Rattle.timing.specs.Timing.{Closed, AllClosed, Wellformed, LowsLe}
 use Rattle.timing.specs.Windows.{upper_of, windows, window_at, windows_from, windows_of}
 use Rattle.timing.proofs.Meet.{tokens_passed}
 
-closed_upper : (l : Latest) → Closed (upper_of l)
-closed_upper Unbounded = tt
-closed_upper (Ticks b) = tt
+closed_upper : (l : Option ℕ) → Closed (upper_of l)
+closed_upper None = tt
+closed_upper (Some b) = tt
 
 module _ (net : Net) (restarts : Restart) where
   next_now : (st : State) (t : ℕ) → (fired net restarts (waited st 1) t).now ≡ st.now + 1

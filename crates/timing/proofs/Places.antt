@@ -1,4 +1,6 @@
 -- A refusal of an order names one of its firings: 5 and 6 the firing that the tokens forbid, and 8 the last firing of the shortest part that has no timing.
+use Rattle.reply.specs.Respond.{Checked, Passed}
+use Rattle.std.specs.Prelude.{Err}
 use Prim.Native.Nat.{ℕ, zero, suc, ◌+◌, ◌≤◌, ◌<◌}
 use native.Mathlib.Nat.{not-suc-le-zero}
 use native.Mathlib.Omega.{arith}
@@ -8,8 +10,6 @@ use mathlib.Core.List.{List, [], ◌∷◌}
 use lib.ListN.{length}
 use Rattle.reply.specs.declared.Refusal.{Refusal}
 use Rattle.reply.specs.declared.Refusal.TheVariants.{NotEnabled, TooManyTokens, Untimable}
-use Rattle.reply.specs.declared.Checked.{Checked}
-use Rattle.reply.specs.declared.Checked.TheVariants.{Passed, Refused}
 use Rattle.reply.specs.Refusal.{number_of, position_of}
 use Rattle.form.specs.Form.{also}
 use Rattle.net.specs.declared.Net.{Net}
@@ -27,7 +27,7 @@ abbrev pub NamesFiring : ℕ → ℕ → Refusal → Type 0
 NamesFiring n k r = (n < position_of r) × (position_of r ≤ n + k) × (number_of r ≤ 8)
 
 -- n firings have been
-tokens_placed : (net : Net) (order m : List ℕ) (n : ℕ) (r : Refusal) → tokens net order m n ≡ Refused r → NamesFiring n (length order) r
+tokens_placed : (net : Net) (order m : List ℕ) (n : ℕ) (r : Refusal) → tokens net order m n ≡ Err r → NamesFiring n (length order) r
 unfolding tokens tokens_judged
 tokens_placed net [] m n r = λ e. let z : ◌≡◌ {A = ℕ} 0 1 = cc in absurd (omega arith)
 tokens_placed net (t ∷ order) m n r = go (enabled (arcs_of net) m t) (limited (arcs_of net) m t) (tokens_placed net order (after (arcs_of net) m t) (n + 1) r)
@@ -35,9 +35,9 @@ tokens_placed net (t ∷ order) m n r = go (enabled (arcs_of net) m t) (limited 
     own : position_of r ≡ n + 1 → number_of r ≤ 8 → NamesFiring n (suc (length order)) r
     own e few = (omega arith, omega arith, few)
 
-    go : (a b : Bool) → (tokens net order (after (arcs_of net) m t) (n + 1) ≡ Refused r → NamesFiring (n + 1) (length order) r)
-        → also (cond a (cond b Passed (Refused (TooManyTokens (n + 1)))) (Refused (NotEnabled (n + 1))))
-        (tokens net order (after (arcs_of net) m t) (n + 1)) ≡ Refused r
+    go : (a b : Bool) → (tokens net order (after (arcs_of net) m t) (n + 1) ≡ Err r → NamesFiring (n + 1) (length order) r)
+        → also (cond a (cond b Passed (Err (TooManyTokens (n + 1)))) (Err (NotEnabled (n + 1))))
+        (tokens net order (after (arcs_of net) m t) (n + 1)) ≡ Err r
         → NamesFiring n (suc (length order)) r
     go true true ih e = let h = ih e in (omega arith, omega arith, h.2)
     go true false ih e = let same : r ≡ TooManyTokens (n + 1) = cc in own (ap position_of same) (omega (arith, ap number_of same))
@@ -67,7 +67,7 @@ module _ (net : Net) (restarts : Restart) (order : List ℕ) (r : Refusal) where
 
       go : (c : Checked) → tokens net order (start_marking net) 0 ≡ c → schedule net restarts order ≡ unschedulable r → NamesFiring 0 (length order) r
       go Passed p e = timed p (verdict_of net restarts order) refl (sym (schedule_passed net restarts order p) ∙ e)
-      go (Refused q) p e =
+      go (Err q) p e =
           let told : unschedulable q ≡ unschedulable r = sym (schedule_refused net restarts order q p) ∙ e in
           let same : q ≡ r = cc in
-          tokens_placed net order (start_marking net) 0 r (p ∙ ap Refused same)
+          tokens_placed net order (start_marking net) 0 r (p ∙ ap Err same)

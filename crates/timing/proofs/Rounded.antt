@@ -1,5 +1,6 @@
 -- The rounded run of an accepted run is a run: its waits are the rounded waits, which are a timing of the same order in whole ticks. No number of it is
 -- over that of the run, so its card passes the checks. A timing in whole ticks makes a run likewise.
+use Rattle.reply.specs.Respond.{Passed}
 use Prim.Native.Nat.{ℕ, zero, suc, ◌+◌, ◌/◌, ◌≤◌, ◌<◌, min}
 use native.Mathlib.Nat.{le_of_suc-le-suc, not-suc-le-zero, min-le_right, min-eq_left}
 use native.Mathlib.Omega.{arith}
@@ -11,7 +12,6 @@ use Rattle.laws.specs.Division.{div_le, div_sum_le}
 use Rattle.laws.specs.Each.{Each, each_of}
 use Rattle.laws.specs.Slots.{length_first, first_pad}
 use Rattle.laws.specs.Sums.{le_or_lt}
-use Rattle.reply.specs.declared.Checked.TheVariants.{Passed}
 use Rattle.net.specs.declared.Net.{Net}
 use Rattle.run.specs.declared.Memory.{Memory}
 use Rattle.run.specs.declared.Firing.{Firing}

@@ -1,5 +1,6 @@
 -- Document 01: "Each clock and each instant moves by less than one tick." A run and its rounded run restart each clock at the same firing, whose instant
 -- is rounded down; and so is the instant at which the clock is read. For any restart rule.
+use Rattle.reply.specs.Respond.{Passed}
 use Prim.Native.Nat.{ℕ, suc, ◌+◌, ◌*◌, ◌/◌, ◌<◌}
 use native.Mathlib.Omega.{arith}
 use mathlib.Core.Path.{◌≡◌, sym, ap, ◌∙◌}
@@ -7,7 +8,6 @@ use mathlib.Core.List.{List}
 use lib.ListN.{length, get_or, take}
 use lib.Seq.{take_all, take-length}
 use Rattle.laws.specs.Division.{whole_near, difference_near}
-use Rattle.reply.specs.declared.Checked.TheVariants.{Passed}
 use Rattle.net.specs.declared.Net.{Net}
 use Rattle.run.specs.declared.Firing.{Firing}
 use Rattle.run.specs.declared.Run.{Run}

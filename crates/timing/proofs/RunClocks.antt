@@ -1,5 +1,6 @@
 -- A run that passes goes along with its order: each firing is at its instant, and each clock counts from the last restart of its transition, as the windows of
 -- document 01 do. For any restart rule.
+use Rattle.reply.specs.Respond.{Passed}
 use Prim.Native.Nat.{ℕ, zero, suc, ◌+◌, ◌-◌, ◌≤◌, ◌<◌}
 use native.Mathlib.Nat.{zero-add, add-suc, suc-add, add-zero}
 use native.Mathlib.Omega.{arith}
@@ -7,7 +8,6 @@ use mathlib.Core.Path.{◌≡◌, refl, sym, ap, ◌∙◌}
 use mathlib.Core.List.{List, [], ◌∷◌}
 use lib.ListN.{length, get_or, take}
 use lib.Seq.{length-take-le, take-length}
-use Rattle.reply.specs.declared.Checked.TheVariants.{Passed}
 use Rattle.net.specs.declared.Net.{Net}
 use Rattle.run.specs.declared.Firing.{Firing}
 use Rattle.run.specs.declared.Run.{Run}

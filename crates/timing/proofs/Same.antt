@@ -1,12 +1,12 @@
 -- Document 01, "The caller": slots past a value's counts are no part of it. Nets that agree in all that counts have the same windows for an order of
 -- their transitions, and the same schedules; such runs are rounded to the same run.
+use Rattle.reply.specs.Respond.{Checked, Passed}
+use Rattle.std.specs.Prelude.{Err}
 use Prim.Native.Nat.{ℕ, ◌<◌}
 use mathlib.Core.Path.{◌≡◌, refl, sym, ap, ◌∙◌}
 use mathlib.Core.List.{List, [], ◌∷◌}
 use lib.ListN.{length}
 use Rattle.laws.specs.Each.{Each}
-use Rattle.reply.specs.declared.Checked.{Checked}
-use Rattle.reply.specs.declared.Checked.TheVariants.{Passed, Refused}
 use Rattle.net.specs.declared.Net.{Net}
 use Rattle.net.specs.Same.{SameNet}
 use Rattle.run.specs.declared.Memory.{Memory}
@@ -56,7 +56,7 @@ module _ {a b : Net} (same : SameNet a b) (memory : Memory) where
         go Passed e =
             schedule_passed a (rule_of (arcs_of a) memory) order e ∙ ap scheduled_by (same_verdict (tokens_listed a order (start_marking a) 0 e))
             ∙ sym (schedule_passed b (rule_of (arcs_of b) memory) order (sym (same_allowed same order) ∙ e))
-        go (Refused r) e =
+        go (Err r) e =
             schedule_refused a (rule_of (arcs_of a) memory) order r e
             ∙ sym (schedule_refused b (rule_of (arcs_of b) memory) order r (sym (same_allowed same order) ∙ e))
 

@@ -1,6 +1,8 @@
 -- What `schedule` answers, for any restart rule and orders of any length: where the tokens allow the order, the earliest timing there is at any
 -- denominator, or the first firing up to which there is none. The least instants in whole ticks are least at every denominator, since rounding a timing
 -- down gives a timing.
+use Rattle.reply.specs.Respond.{Checked, Passed}
+use Rattle.std.specs.Prelude.{Err}
 use Prim.Native.Nat.{ℕ, ◌+◌, ◌*◌, ◌≤◌, ◌<◌}
 use native.Mathlib.Nat.{mul-le-mul_left}
 use native.Mathlib.Omega.{arith}
@@ -12,8 +14,6 @@ use lib.ListN.{length}
 use Rattle.laws.specs.Sums.{le_or_lt}
 use Rattle.reply.specs.declared.Refusal.{Refusal}
 use Rattle.reply.specs.declared.Refusal.TheVariants.{NotEnabled, TooManyTokens, Untimable}
-use Rattle.reply.specs.declared.Checked.{Checked}
-use Rattle.reply.specs.declared.Checked.TheVariants.{Passed, Refused}
 use Rattle.form.specs.Form.{also}
 use Rattle.net.specs.declared.Net.{Net}
 use Rattle.firing.specs.Semantics.{arcs_of, Restart, transition_at, start_marking, enabled, after}
@@ -35,14 +35,14 @@ not_timed : {r : Refusal} {ws : List ℕ} → unschedulable r ≡ timed ws → �
 not_timed e = let z : ◌≡◌ {A = ℕ} 0 1 = cc in omega arith
 
 -- the tokens never say 8
-tokens_other : (net : Net) (order m : List ℕ) (n k : ℕ) → tokens net order m n ≡ Refused (Untimable k) → ⊥
+tokens_other : (net : Net) (order m : List ℕ) (n k : ℕ) → tokens net order m n ≡ Err (Untimable k) → ⊥
 unfolding tokens tokens_judged
 tokens_other net [] m n k = λ e. let z : ◌≡◌ {A = ℕ} 0 1 = cc in omega arith
 tokens_other net (t ∷ order) m n k = go (enabled (arcs_of net) m t) (limited (arcs_of net) m t) (tokens_other net order (after (arcs_of net) m t) (n + 1) k)
   where
-    go : (a b : Bool) → (tokens net order (after (arcs_of net) m t) (n + 1) ≡ Refused (Untimable k) → ⊥)
-        → also (cond a (cond b Passed (Refused (TooManyTokens (n + 1)))) (Refused (NotEnabled (n + 1))))
-        (tokens net order (after (arcs_of net) m t) (n + 1)) ≡ Refused (Untimable k)
+    go : (a b : Bool) → (tokens net order (after (arcs_of net) m t) (n + 1) ≡ Err (Untimable k) → ⊥)
+        → also (cond a (cond b Passed (Err (TooManyTokens (n + 1)))) (Err (NotEnabled (n + 1))))
+        (tokens net order (after (arcs_of net) m t) (n + 1)) ≡ Err (Untimable k)
         → ⊥
     go true true ih e = ih e
     go true false ih e = let z : ◌≡◌ {A = ℕ} 0 1 = cc in omega arith
@@ -56,7 +56,7 @@ module _ (net : Net) (restarts : Restart) (order : List ℕ) where
   abbrev n : ℕ
   n = length order
 
-  pub schedule_refused : (r : Refusal) → tokens net order (start_marking net) 0 ≡ Refused r → schedule net restarts order ≡ unschedulable r
+  pub schedule_refused : (r : Refusal) → tokens net order (start_marking net) 0 ≡ Err r → schedule net restarts order ≡ unschedulable r
   unfolding schedule
   schedule_refused r e = rw e refl
 
@@ -78,7 +78,7 @@ module _ (net : Net) (restarts : Restart) (order : List ℕ) where
       where
         go : (c : Checked) → tokens net order (start_marking net) 0 ≡ c → c ≡ Passed
         go Passed p = refl
-        go (Refused r) p = absurd (not_timed (sym (schedule_refused r p) ∙ e))
+        go (Err r) p = absurd (not_timed (sym (schedule_refused r p) ∙ e))
 
     -- the waits are those between the least instants
     timed_least : (x : List ℕ) × LeastInstants 1 W n x × (waits_between x ≡ ws)
@@ -193,6 +193,6 @@ module _ (net : Net) (restarts : Restart) (order : List ℕ) where
     where
       go : (c : Checked) → tokens net order (start_marking net) 0 ≡ c → schedule net restarts order ≡ unschedulable (Untimable k) → c ≡ Passed
       go Passed q p = refl
-      go (Refused r) q p =
+      go (Err r) q p =
           let same : unschedulable r ≡ unschedulable (Untimable k) = sym (schedule_refused r q) ∙ p in
           absurd (tokens_other net order (start_marking net) 0 k (cc))

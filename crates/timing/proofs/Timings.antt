@@ -1,5 +1,6 @@
 -- Timings of whole orders: a run is accepted exactly when its waits are a timing of its order; a timing in whole ticks exists exactly when one in parts
 -- does; and the rounded waits of a timing are a timing in whole ticks. For any restart rule and orders of any length.
+use Rattle.reply.specs.Respond.{Passed}
 use Prim.Native.Nat.{ℕ, suc, ◌/◌, ◌≤◌, ◌<◌}
 use mathlib.Core.Path.{◌≡◌, ap, sym, subst, subst⁻¹, ◌∙◌}
 use mathlib.Core.Logic.{◌↔◌}
@@ -7,7 +8,6 @@ use mathlib.Core.List.{List}
 use lib.ListN.{length, take}
 use lib.Seq.{length-take-le, get_or-take}
 use Rattle.laws.specs.Tables.{tabled, length_tabled}
-use Rattle.reply.specs.declared.Checked.TheVariants.{Passed}
 use Rattle.net.specs.declared.Net.{Net}
 use Rattle.run.specs.declared.Firing.{Firing}
 use Rattle.firing.specs.Semantics.{Restart, start_marking}

@@ -1,9 +1,8 @@
 -- The earliest timing of a firing order, and the rounding of waits to whole ticks, computed.
-use Rattle.std.specs.Prelude.{ℕ, ◌+◌, ◌-◌, ◌/◌, List, [], ◌∷◌, length}
+use Rattle.reply.specs.Respond.{Checked, Passed}
+use Rattle.std.specs.Prelude.{ℕ, ◌+◌, ◌-◌, ◌/◌, List, [], ◌∷◌, length, Err}
 use Rattle.reply.specs.declared.Refusal.{Refusal}
 use Rattle.reply.specs.declared.Refusal.TheVariants.{Untimable}
-use Rattle.reply.specs.declared.Checked.{Checked}
-use Rattle.reply.specs.declared.Checked.TheVariants.{Passed, Refused}
 use Rattle.net.specs.declared.Net.{Net}
 use Rattle.firing.specs.Semantics.{Restart, start_marking}
 use Rattle.firing.specs.Tokens.{tokens}
@@ -39,7 +38,7 @@ scheduled_by (fails_at k) = unschedulable (Untimable k)
 -- the verdict counts where the tokens allow the order: otherwise it is 5 or 6
 abbrev pub scheduled_after : Checked → Verdict → Scheduled
 scheduled_after Passed v = scheduled_by v
-scheduled_after (Refused r) v = unschedulable r
+scheduled_after (Err r) v = unschedulable r
 
 -- "For an order, 5 and 6 through all firings, then 8": the waits of the earliest instants of an order
 unfoldable pub schedule : Net → Restart → List ℕ → Scheduled

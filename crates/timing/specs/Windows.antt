@@ -1,8 +1,6 @@
 -- Document 01, "Windows and instants": the window of each firing of an order, and the timings that meet them.
-use Rattle.std.specs.Prelude.{ℕ, zero, suc, ◌+◌, ◌≡◌, cond, List, [], ◌∷◌, length, get_or, take}
-use Rattle.reply.specs.declared.Checked.TheVariants.{Passed}
-use Rattle.net.specs.declared.Latest.{Latest}
-use Rattle.net.specs.declared.Latest.TheVariants.{Unbounded, Ticks}
+use Rattle.reply.specs.Respond.{Passed}
+use Rattle.std.specs.Prelude.{ℕ, zero, suc, ◌+◌, ◌≡◌, cond, List, [], ◌∷◌, length, get_or, take, None, Option, Some}
 use Rattle.net.specs.declared.Net.{Net}
 use Rattle.net.specs.Net.{no_transition}
 use Rattle.firing.specs.declared.State.{State}
@@ -12,9 +10,9 @@ use Rattle.firing.specs.Tokens.{tokens, marking_after}
 use Rattle.timing.specs.declared.Window.{Window}
 use Rattle.timing.specs.Timing.{Upper, at_most, unbounded, Win, Feasible}
 
-abbrev pub upper_of : Latest → Upper
-upper_of Unbounded = unbounded
-upper_of (Ticks b) = at_most b
+abbrev pub upper_of : Option ℕ → Upper
+upper_of None = unbounded
+upper_of (Some b) = at_most b
 
 -- window i of a list, as bounds on instants
 abbrev pub no_window : Window

@@ -15,18 +15,18 @@ ghost use Rattle.joining.specs.Joining.{join_cards};
 ghost use Rattle.open_run.specs.Cards.{open_cards, wait_cards, fire_cards, close_cards, state_cards, timetable_now_cards};
 ghost use Rattle.tpn.specs.Result.{result_of, Narrow, Returned};
 
-use reply::Reply;
+use reply::Refusal;
 
 // A reply as one number. Every reply of an operation is narrow.
-fn result_of(r: Reply) -> i64
+fn result_of(r: Result<usize, Refusal>) -> i64
     requires { Narrow r }
     ensures { result ≡ result_of r }
 {
     match r {
-        Reply::Written(n) => n as i64,
-        Reply::Refused(why) => {
-            let number = reply::number_of(why) as u64;
-            let place = reply::position_of(why) as u64;
+        Ok(n) => n as i64,
+        Err(why) => {
+            let number = why.number() as u64;
+            let place = why.position() as u64;
             let code = number * 65536 + place;
             0 - (code as i64)
         }

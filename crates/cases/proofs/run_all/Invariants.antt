@@ -1,4 +1,4 @@
--- Each turn goes on to the next line and counts at most one case and one fault, so that neither count passes the position.
+-- Each turn goes on to the next line and counts at most one case, wrong or not, so that neither count passes the position.
 use Rattle.std.proofs.Common.{length, ◌-◌, ◌≤◌}
 use Rattle.cases.proofs.run_all.Given as goal
 

@@ -1,16 +1,14 @@
 -- Values are checked as their cards would be, and the operation has what passed.
-use mathlib.Core.Path.{sym, ◌∙◌}
+use Rattle.std.proofs.Common.{sym, ◌∙◌}
+use Rattle.reply.proofs.Exit.{exits}
 use Rattle.operations.specs.Replay.{replay_of}
 use Rattle.engine.proofs.Outcome.{check_refused, check_passed}
 use Rattle.engine.proofs.replay.Goals as goal
 
-pub replay_checked-requires : goal.replay_checked-requires
-replay_checked-requires c = sym c.check_run-c.ensures ∙ c.in-Passed.is
+pub returns-in_err-check_run : goal.returns-in_err-check_run
+returns-in_err-check_run c = let a = c.args in
+    rw (exits c.from_residual.ensures.1) (check_refused (replay_of a.net a.run) a.out.now (sym c.check_run.ensures ∙ c.in_err-check_run.was))
 
-pub returns-in-Refused : goal.returns-in-Refused
-returns-in-Refused c = let a = c.args in
-    check_refused (replay_of a.net a.run) a.out.now (sym c.check_run-c.ensures ∙ c.in-Refused.is)
-
-pub returns-in-Passed : goal.returns-in-Passed
-returns-in-Passed c = let a = c.args in
-    check_passed (replay_of a.net a.run) (sym c.check_run-c.ensures ∙ c.in-Passed.is) c.replay_checked.ensures
+pub returns : goal.returns
+returns c = let a = c.args in
+    check_passed (replay_of a.net a.run) (sym c.check_run.ensures ∙ c.in_ok-check_run.was) c.replay_checked.ensures

@@ -1,22 +1,17 @@
--- The scan has found nothing past the count so far (`Scanned`); the first slot that holds something answers for all, and so does the end.
-use mathlib.Core.Bool.{not}
-use mathlib.Core.Path.{sym, ap, ◌∙◌}
-use Rattle.laws.specs.Tests.{all_fails, scan_start, scan_more, scan_done}
-use Rattle.open_run.specs.Open.{blank_behind}
-use Rattle.entering.proofs.Slots.{blank_at, blank_tested}
+-- Each slot behind the count is looked at.
+use Rattle.std.proofs.Common.{◌≡◌, length, ◌∙◌, rules}
+use borrow.Author.Tests.{tests}
+use Rattle.std.proofs.lemmas.Iterator.{YieldsList-from_slice}
+use Rattle.std.proofs.lemmas.Iterator.Adapters.{YieldsList-from_skip}
+use Rattle.std.proofs.lemmas.Iterator.Search.{all_from_yields_List}
+use Rattle.laws.specs.Tables.{length_mapped}
+use Rattle.open_run.specs.Open.{blank}
+use Rattle.entering.proofs.Slots.{blank_scanned}
 use Rattle.entering.proofs.is_blank_behind.Goals as goal
 
-pub slots-init : goal.slots-init
-slots-init c = scan_start (blank_at c.args.run) 64
-
-pub slots-preserved : goal.slots-preserved
-slots-preserved c = scan_more c.slots.invariant c.slots-test.true (blank_tested c.args.run c.slots.i ∙ ap not c.if-run-i.false)
-
-pub returns-after-slots : goal.returns-after-slots
-unfolding blank_behind
-returns-after-slots c = scan_done c.slots.invariant c.slots-test.false
-
-pub returns-then-run-i : goal.returns-then-run-i
-unfolding blank_behind
-returns-then-run-i c = let q = c.args.run in
-    sym (all_fails (blank_at q) c.slots.i 64 (blank_tested q c.slots.i ∙ ap not c.if-run-i.true) c.slots-test.true)
+pub returns : goal.returns
+returns c = let q = c.args.run in
+    let long : length c.args.run.firings ≡ 64 = search (rules, length_mapped) in
+    all_from_yields_List blank _ _ c.all.result c.all.ensures.ran (YieldsList-from_skip q.count (YieldsList-from_slice q.firings cc) cc)
+    (λ x b r called. search (rules, tests))
+    ∙ blank_scanned q long

@@ -1,21 +1,14 @@
--- The slots passed hold the transitions that fire (`Filling`), and all of them are the order.
-use mathlib.Core.Path.{◌≡◌, refl, ◌∙◌}
-use lib.ListN.{length, replicate}
-use borrow.Author.Rules.{rules}
-use Rattle.laws.specs.Arrays.{fill_start, fill_store, fill_done}
+-- Each slot holds the transition that fires, and all of them are the order.
+use Rattle.std.proofs.Common.{◌≡◌, refl, length, rules, arith}
 use Rattle.laws.specs.Tables.{length_mapped}
+use Rattle.steps.proofs.Calls.{made_at}
 use Rattle.entering.proofs.Slots.{fire_in, fires_order}
 use Rattle.entering.proofs.order_so_far.Goals as goal
 
-pub loop-i-init : goal.loop-i-init
-loop-i-init c = fill_start (fire_in c.args.run) 64 (replicate 64 0)
-
-pub loop-i-preserved : goal.loop-i-preserved
-loop-i-preserved c = fill_store c.loop-i.invariant c.loop-i-test.true refl
-
 pub returns : goal.returns
 returns c =
-    let long : length c.args.run.firings ≡ 64 =
-    search (rules, length_mapped) in
     let q = c.args.run in
-    rw (fill_done c.loop-i.invariant c.loop-i-test.false ∙ fires_order q long) refl
+    let long : length c.args.run.firings ≡ 64 = search (rules, length_mapped) in
+    let made = c.from_fn.ensures.items in
+    rw (fires_order q long c.from_fn.result made.long
+    (λ k l. made_at _ (fire_in q) _ (λ u y r called. search rules) c.from_fn.result 64 0 made.each k 0 (omega arith) (omega arith))) refl

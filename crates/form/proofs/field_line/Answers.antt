@@ -1,15 +1,8 @@
--- The test whether the key stands there is the definition's; where it does, the position behind it lies within the input.
-use mathlib.Core.Path.{refl, sym, ◌∙◌}
-use native.Mathlib.Omega.{arith}
+-- Where the key stands, the position behind it lies within the input.
+use Rattle.std.proofs.Common.{arith, sym, ◌∙◌}
 use Rattle.text.proofs.KeyLaws.{begins_split}
 use Rattle.form.proofs.field_line.Goals as goal
 
 pub overflow_add-at : goal.overflow_add-at
 overflow_add-at c = let a = c.args in
-    omega (arith, (begins_split a.key.now a.s.now a.at (sym c.begins_at.ensures ∙ c.if-begins_at.true)).1)
-
-pub returns-then-begins_at : goal.returns-then-begins_at
-returns-then-begins_at c = c.field_at.ensures ∙ rw (sym c.begins_at.ensures ∙ c.if-begins_at.true) refl
-
-pub returns-else-begins_at : goal.returns-else-begins_at
-returns-else-begins_at c = rw (sym c.begins_at.ensures ∙ c.if-begins_at.false) refl
+    record { fits = omega (arith, (begins_split a.key.now a.s.now a.at (sym c.begins_at.ensures ∙ c.if-not-begins_at.false)).1) }

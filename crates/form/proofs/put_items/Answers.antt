@@ -1,13 +1,13 @@
--- The numbers are put one after another, each with what stands behind it (`Putting`).
-use Rattle.laws.specs.Writing.{putting_start, putting_more, putting_done}
+-- The numbers are written one after another, each with what stands behind it.
+use Rattle.text.proofs.Writing.{first_none, first_more, first_all}
 use Rattle.form.proofs.Items.{items_joined}
 use Rattle.form.proofs.put_items.Goals as goal
 
 pub loop-i-init : goal.loop-i-init
-loop-i-init c = let a = c.args in putting_start a.out.now a.at (items_joined a.count a.items)
+loop-i-init c = first_none c.args.w.now (items_joined c.args.items.now)
 
 pub loop-i-preserved : goal.loop-i-preserved
-loop-i-preserved c = putting_more c.loop-i.invariant c.loop-i-test.true c.put_item-to.ensures
+loop-i-preserved c = first_more c.loop-i.invariant c.loop-i-test.true c.put_field.ensures
 
 pub returns : goal.returns
-returns c = putting_done c.loop-i.invariant c.loop-i-test.false
+returns c = first_all c.loop-i.invariant c.loop-i-test.false

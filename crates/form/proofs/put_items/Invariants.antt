@@ -1,15 +1,11 @@
--- The numbers are put one after another, each with what stands behind it (`Putting`).
-use Prim.Native.Nat.{◌+◌, ◌-◌}
-use lib.Dec.{eqb}
-use lib.ListN.{get_or}
-use Rattle.laws.specs.Writing.{Putting}
-use Rattle.laws.specs.Slots.{first_of}
+-- The numbers are written one after another, each with what stands behind it.
+use Rattle.std.proofs.Common.{◌+◌, length, get_or}
+use Rattle.std.proofs.Math.Dec.{eqb}
 use Rattle.text.specs.Decimal.{field}
+use Rattle.text.proofs.Writing.{WritesFirst}
 use Rattle.form.specs.Line.{items_text}
 use Rattle.form.proofs.put_items.Given as goal
 
 abbrev pub invariant-loop-i : goal.invariant-loop-i
-invariant-loop-i l = Putting (items_text (first_of l.count 0 l.items)) (λ k. field (get_or l.items k 0) (eqb (k + 1) l.count)) l.count l.initial.out l.at l.out l.i l.to
-
-abbrev pub decreases-loop-i : goal.decreases-loop-i
-decreases-loop-i l = l.count - l.i
+invariant-loop-i l =
+    WritesFirst (items_text l.items) (λ k. field (get_or l.items k 0) (eqb (k + 1) (length l.items))) (length l.items) l.initial.w l.i l.w

@@ -1,65 +1,68 @@
 -- The checks in their order; where all pass, the places are laid out and the joined net is written.
-use mathlib.Core.Path.{refl, ap}
-use mathlib.Core.Bool.{not}
-use borrow.Author.Rules.{rules}
-use Rattle.laws.specs.Each.{Each}
-use Rattle.net.proofs.Card.{net_places, net_transitions}
-use Rattle.joining.specs.Joining.{pairs_of}
-use Rattle.joining.specs.Code.{Named}
-use Rattle.joining.proofs.Checking.{bad_pairs, right_named, unequal_starts, Ready, ready, too_large, sizes, answered}
+use mathlib.Core.Path.{refl, sym, ◌∙◌}
+use Rattle.joining.proofs.Checking.{given, odd_list, wrong_first, wrong_second, right_pairs, right_named, unequal_starts, too_long, too_many, first_there, answered}
 use Rattle.joining.proofs.join_nets.Goals as goal
+use Rattle.joining.proofs.join_nets.Goals.{then-not-is_empty-via-then-not-is_empty, then-not-is_empty-via-else-not-is_empty+then-is_none}
 
-pub look_at-one-requires : goal.look_at-one-requires
-look_at-one-requires c = (net_places c.args.a c.requires.0).1
+pub returns-then-not-is_empty : goal.returns-then-not-is_empty
+returns-then-not-is_empty c =
+    let g = given c.args.a.now c.args.b.now c.args.list.now c.requires.first c.requires.second c.as_chunks.ensures.front c.as_chunks.ensures.back_len in
+    elim c.then-not-is_empty.branch [
+      | then-not-is_empty-via-then-not-is_empty w ↦
+          rw (odd_list g w.if-not-is_empty.ensures) (record { reply = refl; output = refl })
+      | then-not-is_empty-via-else-not-is_empty+then-is_none w ↦
+          rw (wrong_first g w.look_at.result w.look_at.ensures w.if-is_none.ensures) (record { reply = refl; output = refl })
+    ]
 
-pub look_at-other-requires : goal.look_at-other-requires
-look_at-other-requires c = (net_places c.args.b c.requires.1).1
-
-pub returns-then-not-even-one : goal.returns-then-not-even-one
-returns-then-not-even-one c = rw (bad_pairs c.args.a c.args.b c.args.pairs.now c.requires.0 c.requires.1 c.look_at-one.ensures c.look_at-other.ensures (ap not c.if-not-even-one.true))
-    (record { reply = refl; output = refl })
+pub returns-in_default : goal.returns-in_default
+returns-in_default c =
+    let g = given c.args.a.now c.args.b.now c.args.list.now c.requires.first c.requires.second c.as_chunks.ensures.front c.as_chunks.ensures.back_len in
+    rw (wrong_second g c.in_default.ensures) (record { reply = refl; output = refl })
 
 pub equal_starts-requires : goal.equal_starts-requires
 equal_starts-requires c =
-    let named : Each Named (pairs_of c.args.pairs.now) =
-    right_named c.args.a c.args.b c.args.pairs.now c.requires.0 c.requires.1 c.look_at-one.ensures c.look_at-other.ensures (ap not c.if-not-even-one.false) in
-    named
+    let g = given c.args.a.now c.args.b.now c.args.list.now c.requires.first c.requires.second c.as_chunks.ensures.front c.as_chunks.ensures.back_len in
+    let right = right_pairs g c.if-not-is_empty.ensures c.look_at.result c.look_at.ensures c.if-is_none.ensures c.in-Some.ensures.0 in
+    right_named g right
 
 pub returns-then-not-equal_starts : goal.returns-then-not-equal_starts
-returns-then-not-equal_starts c = rw (unequal_starts c.args.a c.args.b c.args.pairs.now c.requires.0 c.requires.1 c.look_at-one.ensures c.look_at-other.ensures (ap not c.if-not-even-one.false)
-    (rw c.equal_starts.ensures at (ap not c.if-not-equal_starts.true)))
-    (record { reply = refl; output = refl })
+returns-then-not-equal_starts c =
+    let g = given c.args.a.now c.args.b.now c.args.list.now c.requires.first c.requires.second c.as_chunks.ensures.front c.as_chunks.ensures.back_len in
+    let right = right_pairs g c.if-not-is_empty.ensures c.look_at.result c.look_at.ensures c.if-is_none.ensures c.in-Some.ensures.0 in
+    rw (unequal_starts g right (sym c.equal_starts.ensures ∙ c.if-not-equal_starts.true)) (record { reply = refl; output = refl })
 
 pub partners-requires : goal.partners-requires
 partners-requires c =
-    let named : Each Named (pairs_of c.args.pairs.now) =
-    right_named c.args.a c.args.b c.args.pairs.now c.requires.0 c.requires.1 c.look_at-one.ensures c.look_at-other.ensures (ap not c.if-not-even-one.false) in
-    named
+    let g = given c.args.a.now c.args.b.now c.args.list.now c.requires.first c.requires.second c.as_chunks.ensures.front c.as_chunks.ensures.back_len in
+    let right = right_pairs g c.if-not-is_empty.ensures c.look_at.result c.look_at.ensures c.if-is_none.ensures c.in-Some.ensures.0 in
+    right_named g right
 
-pub lay_out-at-requires : goal.lay_out-at-requires
-lay_out-at-requires c = ((net_places c.args.a c.requires.0).1, (net_places c.args.b c.requires.1).1)
+pub returns-in_default-lay_out : goal.returns-in_default-lay_out
+returns-in_default-lay_out c =
+    let g = given c.args.a.now c.args.b.now c.args.list.now c.requires.first c.requires.second c.as_chunks.ensures.front c.as_chunks.ensures.back_len in
+    let right = right_pairs g c.if-not-is_empty.ensures c.look_at.result c.look_at.ensures c.if-is_none.ensures c.in-Some.ensures.0 in
+    rw (too_many g right
+    (sym c.equal_starts.ensures ∙ c.if-not-equal_starts.false) c.in-Some.ensures.1 c.partners.ensures.partners c.in_default-lay_out.ensures)
+    (record { reply = refl; output = refl })
 
-pub overflow_add-a : goal.overflow_add-a
-overflow_add-a c = search (rules, net_transitions c.args.a c.requires.0, net_transitions c.args.b c.requires.1)
+pub returns-then-a-b-gt32 : goal.returns-then-a-b-gt32
+returns-then-a-b-gt32 c =
+    let g = given c.args.a.now c.args.b.now c.args.list.now c.requires.first c.requires.second c.as_chunks.ensures.front c.as_chunks.ensures.back_len in
+    let right = right_pairs g c.if-not-is_empty.ensures c.look_at.result c.look_at.ensures c.if-is_none.ensures c.in-Some.ensures.0 in
+    rw (too_long g right
+    (sym c.equal_starts.ensures ∙ c.if-not-equal_starts.false) c.if-a-b-gt32.true) (record { reply = refl; output = refl })
 
-pub returns-then-not-at-a : goal.returns-then-not-at-a
-returns-then-not-at-a c =
-    let laid_out : Ready c.args.a c.args.b c.args.pairs.now c.requires.0 c.requires.1 c.lay_out-at.result =
-    ready c.args.a c.args.b c.args.pairs.now c.requires.0 c.requires.1 c.look_at-one.ensures c.look_at-other.ensures (ap not c.if-not-even-one.false)
-    (rw c.equal_starts.ensures at (ap not c.if-not-equal_starts.false)) c.partners.ensures c.lay_out-at.ensures in
-    rw (too_large c.args.a c.args.b c.args.pairs.now c.requires.0 c.requires.1 laid_out (ap not c.if-not-at-a.true)) (record { reply = refl; output = refl })
-
-pub joined-requires : goal.joined-requires
-joined-requires c =
-    let laid_out : Ready c.args.a c.args.b c.args.pairs.now c.requires.0 c.requires.1 c.lay_out-at.result =
-    ready c.args.a c.args.b c.args.pairs.now c.requires.0 c.requires.1 c.look_at-one.ensures c.look_at-other.ensures (ap not c.if-not-even-one.false)
-    (rw c.equal_starts.ensures at (ap not c.if-not-equal_starts.false)) c.partners.ensures c.lay_out-at.ensures in
-    sizes c.args.a c.args.b c.args.pairs.now c.requires.0 c.requires.1 laid_out (ap not c.if-not-at-a.false)
+pub joined-requires-clause-places : goal.joined-requires-clause-places
+joined-requires-clause-places c =
+    let g = given c.args.a.now c.args.b.now c.args.list.now c.requires.first c.requires.second c.as_chunks.ensures.front c.as_chunks.ensures.back_len in
+    let right = right_pairs g c.if-not-is_empty.ensures c.look_at.result c.look_at.ensures c.if-is_none.ensures c.in-Some.ensures.0 in
+    first_there g right
+    (sym c.equal_starts.ensures ∙ c.if-not-equal_starts.false) c.in-Some.ensures.1 c.partners.ensures.partners c.in-Some-lay_out.ensures
 
 pub returns : goal.returns
 returns c =
-    let laid_out : Ready c.args.a c.args.b c.args.pairs.now c.requires.0 c.requires.1 c.lay_out-at.result =
-    ready c.args.a c.args.b c.args.pairs.now c.requires.0 c.requires.1 c.look_at-one.ensures c.look_at-other.ensures (ap not c.if-not-even-one.false)
-    (rw c.equal_starts.ensures at (ap not c.if-not-equal_starts.false)) c.partners.ensures c.lay_out-at.ensures in
-    rw (answered c.args.a c.args.b c.args.pairs.now c.requires.0 c.requires.1 laid_out (ap not c.if-not-at-a.false) c.joined.ensures)
-    at c.write_net.ensures
+    let g = given c.args.a.now c.args.b.now c.args.list.now c.requires.first c.requires.second c.as_chunks.ensures.front c.as_chunks.ensures.back_len in
+    let right = right_pairs g c.if-not-is_empty.ensures c.look_at.result c.look_at.ensures c.if-is_none.ensures c.in-Some.ensures.0 in
+    rw (answered g right
+    (sym c.equal_starts.ensures ∙ c.if-not-equal_starts.false) c.in-Some.ensures.1 c.partners.ensures.partners c.in-Some-lay_out.ensures
+    c.if-a-b-gt32.false c.joined.ensures) at c.write_net.ensures

@@ -1,52 +1,35 @@
--- The places passed hold their tokens: those of the first net, then of the second (`Filling`).
-use Prim.Native.Nat.{◌<◌}
+-- The places passed hold their tokens (`Starting`).
 use native.Mathlib.Omega.{arith}
-use mathlib.Core.Path.{◌≡◌, refl, ◌∙◌}
-use lib.ListN.{length, get_or, replicate}
-use borrow.Author.Rules.{rules}
-use Rattle.laws.specs.Arrays.{fill_start, fill_store, fill_done}
-use Rattle.laws.specs.Slots.{get_d_within}
-use Rattle.joining.proofs.Moving.{token_there, none_there, token_behind, behind_start, start_filled}
-use Rattle.joining.proofs.joined_start.Goals.{then-q-lt16, else-q-lt16}
+use mathlib.Core.Path.{ap}
+use lib.ListN.{length, get_or}
+use Rattle.std.specs.Prelude.{None}
+use Rattle.joining.proofs.Moving.{none_there, starting_copied, starting_more, starting_none, starting_done}
+use Rattle.joining.proofs.joined_start.Goals.{in-Some, in_default}
 use Rattle.joining.proofs.joined_start.Goals as goal
 
 pub loop-p-init : goal.loop-p-init
-loop-p-init c = let a = c.args in fill_start (λ k. get_or a.start k 0) a.places (replicate 16 0)
+loop-p-init c = let a = c.args in
+    starting_copied a.start.now a.places a.other.now c.sources-sources.result.now c.copy_from_slice.new.self c.copy_from_slice.ensures.after
+    c.told-start (omega (arith, c.requires, c.sources-sources.ensures.few))
 
 pub loop-p-preserved : goal.loop-p-preserved
-loop-p-preserved c = fill_store c.loop-p.invariant c.loop-p-test.true refl
-
-pub loop-p-2-init : goal.loop-p-2-init
-loop-p-2-init c = let a = c.args in
-    let all : c.loop-p.p ≡ a.places = omega (arith, c.loop-p-test.false, c.loop-p.invariant.within) in
-    rw all (behind_start c.loop-p.joined a.places a.other a.at c.requires.0, omega arith)
-
-pub loop-p-2-preserved : goal.loop-p-2-preserved
-loop-p-2-preserved c =
-    let below : c.loop-p-2.p < length c.args.at.source =
-    let long : length c.args.at.source ≡ 16 = search rules in
-    omega (arith, c.loop-p-2-test.true, c.requires.1) in
-    let a = c.args in
-    let first = c.loop-p.joined in
-    let h = c.loop-p-2-test.true in
-    let w = c.loop-p-2.invariant in
-    let there = get_d_within a.at.source c.loop-p-2.p 0 16 below in
-    elim c.if-q-lt16.branch [
-      | then-q-lt16 v ↦
-          rw v.joined-is (
-            fill_store w.0 h
-                (token_behind first a.places a.other a.at c.loop-p-2.p w.1 (token_there a.other a.at.source c.loop-p-2.p there v.if-q-lt16.true)),
-            omega (arith, w.1),
-          )
-      | else-q-lt16 v ↦
-          rw v.joined-is (
-            fill_store w.0 h
-                (token_behind first a.places a.other a.at c.loop-p-2.p w.1 (none_there a.other a.at.source c.loop-p-2.p there v.if-q-lt16.false)),
-            omega (arith, w.1),
-          )
+loop-p-preserved c = let a = c.args in
+    let sources = c.sources-sources.result.now in
+    elim c.match-sources-p.branch [
+      | in-Some w ↦
+          rw w.joined-is
+          (starting_more a.start.now a.places a.other.now sources c.loop-p.invariant w.in-Some.is
+          (omega (arith, c.loop-p-test.true, c.sources-sources.ensures.few, ap length c.sources-sources.ensures.places)))
+      | in_default w ↦
+          rw w.joined-is
+          (starting_none a.start.now a.places a.other.now sources c.loop-p.invariant
+          (none_there (get_or sources c.loop-p.p None) w.in_default.not-Some))
     ]
 
 pub returns : goal.returns
 returns c = let a = c.args in
-    fill_done c.loop-p-2.invariant.0 c.loop-p-2-test.false
-    ∙ start_filled a.start a.places a.other a.at c.requires.0 c.requires.1 (fill_done c.loop-p.invariant c.loop-p-test.false)
+    let sources = c.sources-sources.result.now in
+    rw (← c.sources-sources.ensures.places)
+    (starting_done a.start.now a.places a.other.now sources c.loop-p.invariant
+    (rw c.sources-sources.ensures.places c.sources-sources.ensures.few)
+    (omega (arith, c.loop-p-test.false, c.requires, ap length c.sources-sources.ensures.places, c.loop-p.auto)))

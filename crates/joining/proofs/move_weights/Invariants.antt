@@ -1,10 +1,6 @@
 -- The places passed hold their weights (`Moving`).
-use Prim.Native.Nat.{◌-◌}
 use Rattle.joining.proofs.Moving.{weights_in, Moving}
 use Rattle.joining.proofs.move_weights.Given as goal
 
 abbrev pub invariant-loop-p : goal.invariant-loop-p
-invariant-loop-p l = Moving (weights_in l.from l.first l.step) (record { places = l.places; source = l.source }) l.slot l.step l.initial.to l.p l.to
-
-abbrev pub decreases-loop-p : goal.decreases-loop-p
-decreases-loop-p l = l.places - l.p
+invariant-loop-p l = Moving (weights_in l.from l.first l.step) l.sources l.slot l.step l.initial.to l.p l.to

@@ -1,10 +1,6 @@
--- The sheet and the counts are checked, and then the intervals, in the order of the card; the first refusal is the answer.
-use Prim.Native.Nat.{◌-◌}
+-- The sheet and the counts are checked, and then the intervals, in the order of the card.
 use Rattle.net_card.proofs.Check.{RowsChecked}
 use Rattle.net_card.proofs.check_net.Given as goal
 
 abbrev pub invariant-loop-t : goal.invariant-loop-t
 invariant-loop-t l = RowsChecked l.net l.t
-
-abbrev pub decreases-loop-t : goal.decreases-loop-t
-decreases-loop-t l = l.transitions - l.t

@@ -1,28 +1,22 @@
--- The lines of each transition are put one after another (`Putting`).
-use Prim.Native.Nat.{◌<◌}
-use native.Mathlib.Omega.{arith}
-use Rattle.laws.specs.Writing.{putting_start, putting_more, putting_done}
+-- The lines of each transition are written one after another.
+use Rattle.std.proofs.Common.{arith}
+use Rattle.text.proofs.Writing.{first_none, first_more, first_all}
 use Rattle.net.specs.Net.{rows_of}
 use Rattle.net_card.proofs.Tables.{take_gathered, give_gathered}
-use Rattle.net_card.proofs.Write.{rows_joined, row_puts}
+use Rattle.net_card.proofs.Write.{rows_joined, row_written}
 use Rattle.net_card.proofs.put_table.Goals as goal
 
 pub loop-t-init : goal.loop-t-init
 loop-t-init c = let n = c.args.net in
-    putting_start c.args.out.now c.args.at (rows_joined n.places n.transitions (rows_of n) c.requires)
+    first_none c.args.w.now (rows_joined n.places n.transitions (rows_of n) c.requires.1)
 
 pub loop-t-preserved : goal.loop-t-preserved
 loop-t-preserved c =
-    let small : c.loop-t.t < 32 =
-    omega (arith, c.requires) in
     let n = c.args.net in
     let take = take_gathered n c.loop-t.t c.row_of-take.ensures in
     let give = give_gathered n c.loop-t.t c.row_of-give.ensures in
-    putting_more c.loop-t.invariant c.loop-t-test.true
-    (row_puts n c.loop-t.t (small) take give c.put_interval-at_take.ensures c.put_weights-to.ensures)
-
-pub shape_of-out : goal.shape_of-out
-shape_of-out c = c.loop-t.invariant.long
+    first_more c.loop-t.invariant c.loop-t-test.true
+    (row_written n c.loop-t.t _ _ _ (omega (arith, c.requires.1)) take give c.put_interval.ensures c.put_weights.ensures)
 
 pub returns : goal.returns
-returns c = putting_done c.loop-t.invariant c.loop-t-test.false
+returns c = first_all c.loop-t.invariant c.loop-t-test.false

@@ -1,11 +1,8 @@
 -- The slots passed hold their weights (`Filling`).
-use Prim.Native.Nat.{◌+◌, ◌-◌, ◌*◌}
-use lib.ListN.{get_or, replicate}
+use Rattle.std.proofs.Common.{◌+◌, ◌*◌, get_or}
+use Rattle.std.specs.Prelude.{replicate}
 use Rattle.laws.specs.Arrays.{Filling}
 use Rattle.net_card.proofs.row_of.Given as goal
 
 abbrev pub invariant-loop-p : goal.invariant-loop-p
 invariant-loop-p l = Filling (λ k. get_or l.table (l.first + l.step * k) 0) 16 (replicate 16 0) l.p l.row
-
-abbrev pub decreases-loop-p : goal.decreases-loop-p
-decreases-loop-p l = 16 - l.p

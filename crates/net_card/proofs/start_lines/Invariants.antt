@@ -1,11 +1,8 @@
--- The loop keeps the state of the reader (`Reading`); a refused line answers for all, and at the end the array holds what was read.
-use Prim.Native.Nat.{◌+◌, ◌-◌}
+-- The loop keeps the state of the reader (`Reading`).
+use Rattle.std.proofs.Common.{◌+◌}
 use Rattle.form.proofs.Loops.{Reading}
 use Rattle.net_card.proofs.Read.{start_line}
 use Rattle.net_card.proofs.start_lines.Given as goal
 
 abbrev pub invariant-loop-i : goal.invariant-loop-i
-invariant-loop-i l = Reading start_line l.places 16 0 l.s l.at 4 l.start l.i l.to (4 + l.i)
-
-abbrev pub decreases-loop-i : goal.decreases-loop-i
-decreases-loop-i l = l.places - l.i
+invariant-loop-i l = Reading start_line l.places 16 0 l.s l.at 4 l.start l.i l.next (4 + l.i)

@@ -1,16 +1,18 @@
 -- Every number of the line passes its first check, so that the second alone says what is out of range; each way out is one case of that.
-use mathlib.Core.Path.{sym, ◌∙◌}
+use Rattle.std.proofs.Common.{sym, ◌∙◌}
+use Rattle.reply.proofs.Exit.{exits}
 use Rattle.open_cards.proofs.Opening.{none_there, out_of_range, in_range}
 use Rattle.open_cards.proofs.denominator_line.Goals as goal
 
-pub returns-in-Refused : goal.returns-in-Refused
-returns-in-Refused c = let a = c.args in
-    none_there a.s.now a.at (sym c.number_line-n.ensures ∙ c.in-Refused.is)
+pub returns-in_err-value : goal.returns-in_err-value
+returns-in_err-value c = let a = c.args in
+    exits c.from_residual.ensures.1 ∙ none_there a.s.now a.at (sym c.number_line.ensures ∙ c.in_err-value.was)
 
-pub returns-in-Refused-c : goal.returns-in-Refused-c
-returns-in-Refused-c c = let a = c.args in
-    out_of_range a.s.now a.at (sym c.number_line-n.ensures ∙ c.in-Value.is) (sym c.check_range-c.ensures ∙ c.in-Refused-c.is)
+pub returns-in_err-check_range : goal.returns-in_err-check_range
+returns-in_err-check_range c = let a = c.args in
+    exits c.from_residual-in_err-check_range.ensures.1
+    ∙ out_of_range a.s.now a.at (sym c.number_line.ensures ∙ c.in_ok-value.was) (sym c.check_range.ensures ∙ c.in_err-check_range.was)
 
-pub returns-in-Passed : goal.returns-in-Passed
-returns-in-Passed c = let a = c.args in
-    in_range a.s.now a.at (sym c.number_line-n.ensures ∙ c.in-Value.is) (sym c.check_range-c.ensures ∙ c.in-Passed.is)
+pub returns : goal.returns
+returns c = let a = c.args in
+    in_range a.s.now a.at (sym c.number_line.ensures ∙ c.in_ok-value.was) (sym c.check_range.ensures ∙ c.in_ok-check_range.was)

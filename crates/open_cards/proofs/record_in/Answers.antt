@@ -1,10 +1,10 @@
--- The cards are read one behind the other: where both are there, they are the record, and otherwise it does not go on.
-use mathlib.Core.Path.{refl}
-use Rattle.engine.proofs.Inputs.{run_input_stopped, run_input_found}
+-- Where both cards are there, they are the record, and otherwise there is none.
+use Rattle.std.proofs.Common.{refl, sym}
+use Rattle.form.proofs.Answers.{was_refused, was_found}
 use Rattle.open_cards.proofs.record_in.Goals as goal
 
-pub returns-in-Stopped : goal.returns-in-Stopped
-returns-in-Stopped c = rw (run_input_stopped c.args.input.now c.read_net-n.ensures c.run_behind-r.ensures c.in-Stopped.is) refl
+pub returns-in-Ok : goal.returns-in-Ok
+returns-in-Ok c = rw (was_found (sym c.in-Ok.ensures)).1 refl
 
-pub returns-in-Next : goal.returns-in-Next
-returns-in-Next c = rw (run_input_found c.args.input.now c.read_net-n.ensures c.run_behind-r.ensures c.in-Next.is).1 refl
+pub returns-in-Err : goal.returns-in-Err
+returns-in-Err c = rw (was_refused (sym c.in-Err.ensures)) refl

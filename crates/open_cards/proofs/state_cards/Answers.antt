@@ -1,7 +1,13 @@
--- The call is one on the record of the cards.
-use Rattle.open_cards.proofs.Records.{state_answered}
+-- The record of the cards is asked.
+use Rattle.std.proofs.Common.{refl, sym, ◌∙◌}
+use Rattle.reply.proofs.Exit.{exits}
+use Rattle.open_run.specs.Open.{state_of}
+use Rattle.open_cards.proofs.Records.{record_refused, record_answered}
 use Rattle.open_cards.proofs.state_cards.Goals as goal
 
+pub returns-in_err-run : goal.returns-in_err-run
+returns-in_err-run c =
+    rw (exits c.from_residual.ensures.1) (record_refused c.args.input.now (sym c.record_in.ensures ∙ c.in_err-run.was) state_of c.args.out.now)
+
 pub returns : goal.returns
-returns c = let a = c.args in
-    state_answered a.input.now c.record_in.result c.record_in.ensures c.state.ensures
+returns c = record_answered c.args.input.now (sym c.record_in.ensures ∙ c.in_ok-run.was) state_of refl c.state.ensures

@@ -1,14 +1,20 @@
 -- The step is entered on the record of the cards, and what an accepted one leaves is open, so that its run has a card.
-use Rattle.open_run.specs.Open.{with_run, wait_added, wait_checked}
+use Rattle.std.proofs.Common.{sym, ap, ◌∙◌}
+use Rattle.reply.proofs.Exit.{exits}
+use Rattle.open_run.specs.Open.{with_run, wait_added, wait_checked, wait_of}
+use Rattle.open_run.specs.Cards.{card_after}
 use Rattle.open_run.proofs.Accepted.{open_waited}
-use Rattle.open_cards.proofs.Records.{entered_card, wait_answered}
+use Rattle.open_cards.proofs.Records.{entered_card, record_refused, record_answered}
 use Rattle.open_cards.proofs.wait_cards.Goals as goal
 
+pub returns-in_err-run : goal.returns-in_err-run
+returns-in_err-run c =
+    rw (exits c.from_residual.ensures.1)
+    (record_refused c.args.input.now (sym c.record_in.ensures ∙ c.in_err-run.was) (λ x. card_after (wait_of x c.args.parts)) c.args.out.now)
+
 pub respond_entered-requires : goal.respond_entered-requires
-respond_entered-requires c = let r = c.record_in.result in
-    let parts = c.args.parts in
-    entered_card r (with_run r (wait_added r.run parts)) (wait_checked r parts) (open_waited r parts) c.enter_wait-e.ensures
+respond_entered-requires c = let r = c.in_ok-run.run' in
+    entered_card r (with_run r (wait_added r.run c.args.parts)) (wait_checked r c.args.parts) (open_waited r c.args.parts) c.enter_wait.ensures
 
 pub returns : goal.returns
-returns c = let a = c.args in
-    wait_answered a.input.now c.record_in.result c.record_in.ensures a.parts c.enter_wait-e.ensures c.respond_entered.ensures
+returns c = record_answered c.args.input.now (sym c.record_in.ensures ∙ c.in_ok-run.was) (λ x. card_after (wait_of x c.args.parts)) (ap card_after c.enter_wait.ensures) c.respond_entered.ensures

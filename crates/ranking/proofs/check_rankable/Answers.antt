@@ -1,54 +1,24 @@
 -- X is replayed, then Y: a refusal is the answer, and behind two replays that pass the orders decide.
-use mathlib.Core.Bool.{Bool, true, false, cond, ◌&&◌}
-use mathlib.Core.Path.{◌≡◌, ◌∙◌}
-use Rattle.reply.specs.declared.Refusal.TheVariants.{OtherOrder}
-use Rattle.reply.specs.declared.Checked.TheVariants.{Passed, Refused}
-use Rattle.operations.specs.Replay.{replayed}
-use Rattle.ranking.specs.Ranking.{rankable}
-use Rattle.ranking.specs.Lead.{of_one_order}
-use Rattle.ranking.proofs.Comparing.{replay_says}
+use Rattle.std.proofs.Common.{◌∙◌, true, false}
+use Rattle.reply.proofs.Exit.{exits}
+use Rattle.ranking.proofs.Comparing.{replay_says, x_stops, y_stops, one_order_lem}
 use Rattle.ranking.proofs.check_rankable.Goals as goal
 
-pub returns-in_default : goal.returns-in_default
-returns-in_default c =
-    let x-says : let a = c.args in replayed a.net a.x ≡ c.play-px.result.checked =
-    let a = c.args in replay_says a.net a.x c.play-px.ensures in
-    rw (x-says ∙ c.in_default.is) c.in_default.is
+pub returns-in_err-play : goal.returns-in_err-play
+returns-in_err-play c = let a = c.args in
+    exits c.from_residual.ensures.1 ∙ x_stops a.net a.x a.y (replay_says a.net a.x c.play.ensures ∙ c.in_err-play.was)
 
-pub returns-in_default-cy : goal.returns-in_default-cy
-returns-in_default-cy c =
-    let x-says : let a = c.args in replayed a.net a.x ≡ c.play-px.result.checked =
-    let a = c.args in replay_says a.net a.x c.play-px.ensures in
-    let x-passes : let a = c.args in replayed a.net a.x ≡ Passed =
-    x-says ∙ c.in-Passed.is in
-    let y-says : let a = c.args in replayed a.net a.y ≡ c.play-py.result.checked =
-    let a = c.args in replay_says a.net a.y c.play-py.ensures in
-    rw (x-passes, y-says ∙ c.in_default-cy.is) c.in_default-cy.is
+pub returns-in_err-play-2 : goal.returns-in_err-play-2
+returns-in_err-play-2 c = let a = c.args in
+    exits c.from_residual-in_err-play-2.ensures.1
+    ∙ y_stops a.net a.x a.y (replay_says a.net a.x c.play.ensures ∙ c.in_ok-play.was) (replay_says a.net a.y c.play-2.ensures ∙ c.in_err-play-2.was)
 
 pub returns-then-same_memory-same_firings : goal.returns-then-same_memory-same_firings
-returns-then-same_memory-same_firings c =
-    let x-says : let a = c.args in replayed a.net a.x ≡ c.play-px.result.checked =
-    let a = c.args in replay_says a.net a.x c.play-px.ensures in
-    let x-passes : let a = c.args in replayed a.net a.x ≡ Passed =
-    x-says ∙ c.in-Passed.is in
-    let y-says : let a = c.args in replayed a.net a.y ≡ c.play-py.result.checked =
-    let a = c.args in replay_says a.net a.y c.play-py.ensures in
-    let orders : (b : Bool) → (c.same_memory.result && c.same_firings.result) ≡ b → let a = c.args in cond b Passed (Refused OtherOrder) ≡ rankable a.net a.x a.y =
-    λ b told. let a = c.args in
-    let one : of_one_order a.x a.y ≡ b = rw (← c.same_memory.ensures, ← c.same_firings.ensures) told in
-    rw (x-passes, y-says ∙ c.in-Passed-cy.is, one) in
-    orders true c.if-same_memory-same_firings.true
+returns-then-same_memory-same_firings c = let a = c.args in
+    one_order_lem a.net a.x a.y (replay_says a.net a.x c.play.ensures ∙ c.in_ok-play.was) {b = true} (replay_says a.net a.y c.play-2.ensures ∙ c.in_ok-play-2.was)
+    (rw (← c.same_memory.ensures, ← c.same_firings.ensures) c.if-same_memory-same_firings.true)
 
 pub returns : goal.returns
-returns c =
-    let x-says : let a = c.args in replayed a.net a.x ≡ c.play-px.result.checked =
-    let a = c.args in replay_says a.net a.x c.play-px.ensures in
-    let x-passes : let a = c.args in replayed a.net a.x ≡ Passed =
-    x-says ∙ c.in-Passed.is in
-    let y-says : let a = c.args in replayed a.net a.y ≡ c.play-py.result.checked =
-    let a = c.args in replay_says a.net a.y c.play-py.ensures in
-    let orders : (b : Bool) → (c.same_memory.result && c.same_firings.result) ≡ b → let a = c.args in cond b Passed (Refused OtherOrder) ≡ rankable a.net a.x a.y =
-    λ b told. let a = c.args in
-    let one : of_one_order a.x a.y ≡ b = rw (← c.same_memory.ensures, ← c.same_firings.ensures) told in
-    rw (x-passes, y-says ∙ c.in-Passed-cy.is, one) in
-    orders false c.if-same_memory-same_firings.false
+returns c = let a = c.args in
+    one_order_lem a.net a.x a.y (replay_says a.net a.x c.play.ensures ∙ c.in_ok-play.was) {b = false} (replay_says a.net a.y c.play-2.ensures ∙ c.in_ok-play-2.was)
+    (rw (← c.same_memory.ensures, ← c.same_firings.ensures) c.if-same_memory-same_firings.false)

@@ -1,10 +1,6 @@
 -- The loop counts both runs side by side (`Abreast`); the first products that differ decide, or those of the ends.
-use Prim.Native.Nat.{◌-◌}
 use Rattle.ranking.proofs.Crossing.{Abreast}
 use Rattle.ranking.proofs.deciding.Given as goal
 
 abbrev pub invariant-loop-i : goal.invariant-loop-i
 invariant-loop-i l = Abreast l.x l.y l.sx l.sy l.i
-
-abbrev pub decreases-loop-i : goal.decreases-loop-i
-decreases-loop-i l = l.count - l.i

@@ -3,11 +3,11 @@ use mathlib.Core.Path.{sym}
 use Rattle.ranking.proofs.Comparing.{alike_start, alike_more, alike_done, other_count, other_fire}
 use Rattle.ranking.proofs.same_firings.Goals as goal
 
-pub returns-then-count-y : goal.returns-then-count-y
-returns-then-count-y c = sym (other_count c.args.x c.args.y c.requires.0 c.requires.1 c.if-count-y.true)
+pub returns-then-x-y : goal.returns-then-x-y
+returns-then-x-y c = sym (other_count c.args.x c.args.y c.requires.0 c.requires.1 c.if-x-y.true)
 
 pub loop-i-init : goal.loop-i-init
-loop-i-init c = alike_start c.args.x c.args.y c.if-count-y.false c.requires.0
+loop-i-init c = alike_start c.args.x c.args.y c.if-x-y.false c.requires.0
 
 pub returns-then-x-i : goal.returns-then-x-i
 returns-then-x-i c = sym (other_fire c.loop-i.invariant c.loop-i-test.true c.if-x-i.true)

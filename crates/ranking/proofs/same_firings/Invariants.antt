@@ -1,10 +1,6 @@
 -- Other counts are other orders; the loop keeps that all slots so far are alike (`Alike`), and one that is not makes another order.
-use Prim.Native.Nat.{◌-◌}
 use Rattle.ranking.proofs.Comparing.{Alike}
 use Rattle.ranking.proofs.same_firings.Given as goal
 
 abbrev pub invariant-loop-i : goal.invariant-loop-i
 invariant-loop-i l = Alike l.x l.y l.i
-
-abbrev pub decreases-loop-i : goal.decreases-loop-i
-decreases-loop-i l = l.count - l.i

@@ -1,5 +1,6 @@
 -- The loop keeps the state of the check (`Checking`); a refused line refuses all, and at the end all pass.
-use mathlib.Core.Path.{sym, ◌∙◌}
+use Rattle.std.proofs.Common.{sym, ◌∙◌}
+use Rattle.reply.proofs.Exit.{exits}
 use Rattle.form.proofs.Loops.{checking_start, checking_refused, checking_done}
 use Rattle.run.specs.Run.{fire}
 use Rattle.run_card.proofs.Check.{fire_passed}
@@ -8,12 +9,12 @@ use Rattle.run_card.proofs.check_all_fires.Goals as goal
 pub loop-i-init : goal.loop-i-init
 loop-i-init c = let a = c.args in checking_start (fire a.transitions) a.count 0 a.fires 4
 
-pub returns-in_default : goal.returns-in_default
-returns-in_default c = c.in_default.is ∙
-    sym (checking_refused c.loop-i.invariant c.loop-i-test.true (sym c.check_listed-c.ensures ∙ c.in_default.is))
+pub returns-in_err-check_listed : goal.returns-in_err-check_listed
+returns-in_err-check_listed c =
+    exits c.from_residual.ensures.1 ∙ sym (checking_refused c.loop-i.invariant c.loop-i-test.true (sym c.check_listed.ensures ∙ c.in_err-check_listed.was))
 
 pub loop-i-preserved : goal.loop-i-preserved
-loop-i-preserved c = fire_passed c.args.transitions c.loop-i.invariant c.loop-i-test.true (sym c.check_listed-c.ensures ∙ c.in-Passed.is)
+loop-i-preserved c = fire_passed c.args.transitions c.loop-i.invariant c.loop-i-test.true (sym c.check_listed.ensures ∙ c.in_ok-check_listed.was)
 
 pub returns : goal.returns
 returns c = sym (checking_done c.loop-i.invariant c.loop-i-test.false)

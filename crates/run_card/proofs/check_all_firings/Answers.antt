@@ -1,5 +1,6 @@
--- The loop keeps the state of the check (`Checking`); a refused firing refuses all, and at the end all pass.
-use mathlib.Core.Path.{sym, ◌∙◌}
+-- The loop keeps the state of the check (`Checking`); a refused line refuses all, and at the end all pass.
+use Rattle.std.proofs.Common.{sym, ◌∙◌}
+use Rattle.reply.proofs.Exit.{exits}
 use Rattle.form.proofs.Loops.{checking_start, checking_refused, checking_done}
 use Rattle.run.specs.Run.{firing, no_firing}
 use Rattle.run_card.proofs.Check.{firing_passed}
@@ -8,13 +9,12 @@ use Rattle.run_card.proofs.check_all_firings.Goals as goal
 pub loop-i-init : goal.loop-i-init
 loop-i-init c = let a = c.args in checking_start (firing a.transitions) a.count no_firing a.firings 5
 
-pub returns-in_default : goal.returns-in_default
-returns-in_default c = let w = c.loop-i.invariant in
-    c.in_default.is ∙ sym (checking_refused w c.loop-i-test.true (sym c.check_one_firing-c.ensures ∙ c.in_default.is))
+pub returns-in_err-check_one_firing : goal.returns-in_err-check_one_firing
+returns-in_err-check_one_firing c =
+    exits c.from_residual.ensures.1 ∙ sym (checking_refused c.loop-i.invariant c.loop-i-test.true (sym c.check_one_firing.ensures ∙ c.in_err-check_one_firing.was))
 
 pub loop-i-preserved : goal.loop-i-preserved
-loop-i-preserved c = firing_passed c.args.transitions c.loop-i.invariant c.loop-i-test.true
-    (sym c.check_one_firing-c.ensures ∙ c.in-Passed.is)
+loop-i-preserved c = firing_passed c.args.transitions c.loop-i.invariant c.loop-i-test.true (sym c.check_one_firing.ensures ∙ c.in_ok-check_one_firing.was)
 
 pub returns : goal.returns
 returns c = sym (checking_done c.loop-i.invariant c.loop-i-test.false)

@@ -1,12 +1,15 @@
--- The sheet is read, and what stands behind it; each way out is one case of that.
-use mathlib.Core.Path.{sym, ◌∙◌}
-use Rattle.run_card.proofs.Read.{order_no_sheet, order_sheet}
+-- What follows the card is refused one past its last line.
+use Rattle.std.proofs.Common.{sym, ◌∙◌}
+use Rattle.std.proofs.lemmas.Result.{IfOk-at_ok}
+use Rattle.run.specs.Run.{order_card}
+use Rattle.run_card.proofs.Read.{order_long, followed, not_followed}
 use Rattle.run_card.proofs.order_card.Goals as goal
 
-pub returns-in-Refused : goal.returns-in-Refused
-returns-in-Refused c = let a = c.args in
-    c.refused_order.ensures ∙ order_no_sheet a.own a.transitions a.s.now (sym c.sheet_line-n.ensures ∙ c.in-Refused.is)
+pub returns-then-next-s : goal.returns-then-next-s
+returns-then-next-s c = let a = c.args in
+    followed (order_card a.own a.transitions) a.s.now (sym c.order_front.ensures.value ∙ c.in_ok-order.was)
+    (order_long a.own a.transitions c.in_ok-order.order (IfOk-at_ok _ c.in_ok-order.was c.order_front.ensures.few)) c.if-next-s.true
 
-pub returns-in-Value : goal.returns-in-Value
-returns-in-Value c = let a = c.args in
-    c.order_on_sheet.ensures ∙ order_sheet a.own a.transitions a.s.now (sym c.sheet_line-n.ensures ∙ c.in-Value.is)
+pub returns : goal.returns
+returns c = let a = c.args in
+    not_followed (order_card a.own a.transitions) a.s.now (sym c.order_front.ensures.value ∙ c.in_ok-order.was) c.if-next-s.false

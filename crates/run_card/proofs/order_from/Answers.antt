@@ -1,30 +1,23 @@
--- The loop keeps the state of the reader (`Reading`) and the values of the first lines; a refused line refuses all, and bytes behind the last line do too.
-use mathlib.Core.Path.{refl, sym, ◌∙◌}
+-- The loop keeps the state of the reader (`Reading`); a refused line answers for all.
+use Rattle.std.proofs.Common.{sym, ap, ◌∙◌}
+use Rattle.reply.proofs.Exit.{exits}
 use Rattle.form.proofs.Loops.{reading_start}
 use Rattle.run.specs.Run.{fire}
-use Rattle.run_card.proofs.Read.{fires_more, fire_stopped, order_whole, order_followed}
+use Rattle.run_card.specs.Code.{order_from}
+use Rattle.run_card.proofs.Read.{times_stopped, times_read, fires_more}
 use Rattle.run_card.proofs.order_from.Goals as goal
 
 pub loop-i-init : goal.loop-i-init
-loop-i-init c = let a = c.args in
-    (reading_start (fire a.transitions) a.count 64 0 a.s.now a.at 4 c.requires, (refl, refl, refl))
+loop-i-init c = let a = c.args in reading_start (fire a.transitions) a.count 64 0 a.s.now a.at 4 c.requires
 
-pub returns-in-Refused : goal.returns-in-Refused
-returns-in-Refused c = let a = c.args in
-    c.refused_order.ensures
-    ∙ fire_stopped a.transitions c.loop-i.invariant.0 a.sheet a.memory c.loop-i-test.true
-    (sym c.listed_line-f.ensures ∙ c.in-Refused.is)
+pub returns-in_err-t-clause-value : goal.returns-in_err-t-clause-value
+returns-in_err-t-clause-value c = let a = c.args in
+    exits c.from_residual.ensures.1
+    ∙ sym (ap (order_from a.sheet a.memory a.count) (times_stopped c.loop-i.invariant c.loop-i-test.true (sym c.listed_line.ensures ∙ c.in_err-t.was)))
 
 pub loop-i-preserved : goal.loop-i-preserved
-loop-i-preserved c = let e = sym c.listed_line-f.ensures ∙ c.in-Value.is in
-    (fires_more c.args.transitions c.loop-i.invariant.0 c.loop-i-test.true e, c.loop-i.invariant.1)
+loop-i-preserved c = fires_more c.args.transitions c.loop-i.invariant c.loop-i-test.true (sym c.listed_line.ensures ∙ c.in_ok-t.was)
 
-pub returns-then-to-s : goal.returns-then-to-s
-returns-then-to-s c = let a = c.args in
-    c.refused_order-then-to-s.ensures
-    ∙ order_followed a.transitions c.loop-i.invariant.0 a.sheet a.memory c.loop-i-test.false c.if-to-s.true
-
-pub returns : goal.returns
-returns c = let a = c.args in
-    let v = c.loop-i.invariant in
-    order_whole a.transitions v.0 a.sheet a.memory c.loop-i-test.false v.1 c.if-to-s.false
+pub returns-clause-value : goal.returns-clause-value
+returns-clause-value c = let a = c.args in
+    sym (ap (order_from a.sheet a.memory a.count) (times_read c.loop-i.invariant c.loop-i-test.false))

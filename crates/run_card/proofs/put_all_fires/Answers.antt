@@ -1,14 +1,14 @@
--- The lines are put one after another (`Putting`).
-use Rattle.laws.specs.Writing.{putting_start, putting_more, putting_done}
+-- The lines are written one after another.
+use Rattle.text.proofs.Writing.{first_none, first_more, first_all}
 use Rattle.form.proofs.Loops.{texts_joined}
 use Rattle.run.specs.Run.{fire}
 use Rattle.run_card.proofs.put_all_fires.Goals as goal
 
 pub loop-i-init : goal.loop-i-init
-loop-i-init c = let a = c.args in putting_start a.out.now a.at (texts_joined (fire 0) a.count 0 a.fires)
+loop-i-init c = first_none c.args.w.now (texts_joined (fire 0) c.args.count 0 c.args.fires)
 
 pub loop-i-preserved : goal.loop-i-preserved
-loop-i-preserved c = putting_more c.loop-i.invariant c.loop-i-test.true c.put_number_line-to.ensures
+loop-i-preserved c = first_more c.loop-i.invariant c.loop-i-test.true c.put_number_line.ensures
 
 pub returns : goal.returns
-returns c = putting_done c.loop-i.invariant c.loop-i-test.false
+returns c = first_all c.loop-i.invariant c.loop-i-test.false

@@ -1,6 +1,6 @@
--- The line `fire` stands behind the line `wait`.
-use Rattle.laws.specs.Writing.{puts_then}
+-- One line behind the other.
+use Rattle.text.proofs.Writing.{writes_then}
 use Rattle.run_card.proofs.put_one_firing.Goals as goal
 
 pub returns : goal.returns
-returns c = puts_then c.put_number_line-to.ensures c.put_number_line.ensures
+returns c = writes_then c.put_number_line.ensures c.put_number_line-2.ensures

@@ -1,10 +1,10 @@
 -- A refused run is answered by its refusal; the card of one that passes fits the buffer, and its bytes are the answer.
-use native.Mathlib.Omega.{arith}
-use mathlib.Core.Path.{◌≡◌, sym, ◌∙◌}
-use lib.ListN.{replicate}
-use Rattle.laws.specs.Writing.{front_within, front_length, Wrote}
-use Rattle.reply.specs.declared.Checked.TheVariants.{Passed}
+use Rattle.std.proofs.Common.{arith, sym, ◌∙◌, ◌≡◌}
+use Rattle.std.specs.Prelude.{replicate}
+use Rattle.laws.specs.Writing.{front_within, front_length}
+use Rattle.reply.specs.Respond.{Passed}
 use Rattle.reply.proofs.Laws.{check_refused}
+use Rattle.reply.proofs.Exit.{exits}
 use Rattle.form.proofs.Answers.{card_answered}
 use Rattle.run.specs.Run.{run_card}
 use Rattle.cards.specs.Cards.{card_of, run_checked}
@@ -12,32 +12,19 @@ use Rattle.run_card.proofs.Write.{run_written}
 use Rattle.run_card.proofs.write_run.Goals as goal
 
 pub slice_bounds-card-end : goal.slice_bounds-card-end
-slice_bounds-card-end c =
-    let passes : let a = c.args in run_checked a.net a.run ≡ Passed =
-    sym c.check_run-c.ensures ∙ c.in-Passed.is in
-    let wrote : let a = c.args in Wrote (replicate 2048 0) 0 ((card_of run_card a.net).text a.run) c.put_run-n.result c.put_run-n.new.out =
-    let a = c.args in
-    run_written a.net (replicate 2048 0) a.run (omega arith) passes c.put_run-n.ensures in
-    front_within wrote
+slice_bounds-card-end c = let a = c.args in
+    front_within (run_written a.net (replicate 2048 0) a.run (omega arith) (sym c.check_run.ensures ∙ c.in_ok-check_run.was) c.put_run-n.ensures)
 
 pub slice_bounds-respond-end : goal.slice_bounds-respond-end
-slice_bounds-respond-end c =
-    let passes : let a = c.args in run_checked a.net a.run ≡ Passed =
-    sym c.check_run-c.ensures ∙ c.in-Passed.is in
-    let wrote : let a = c.args in Wrote (replicate 2048 0) 0 ((card_of run_card a.net).text a.run) c.put_run-n.result c.put_run-n.new.out =
-    let a = c.args in
-    run_written a.net (replicate 2048 0) a.run (omega arith) passes c.put_run-n.ensures in
-    front_length wrote
+slice_bounds-respond-end c = let a = c.args in
+    front_length (run_written a.net (replicate 2048 0) a.run (omega arith) (sym c.check_run.ensures ∙ c.in_ok-check_run.was) c.put_run-n.ensures)
 
-pub returns-in-Refused : goal.returns-in-Refused
-returns-in-Refused c = let a = c.args in
-    check_refused ((card_of run_card a.net).text a.run) a.out.now (sym c.check_run-c.ensures ∙ c.in-Refused.is)
+pub returns-in_err-check_run : goal.returns-in_err-check_run
+returns-in_err-check_run c = let a = c.args in
+    rw (exits c.from_residual.ensures.1)
+    (check_refused ((card_of run_card a.net).text a.run) a.out.now (sym c.check_run.ensures ∙ c.in_err-check_run.was))
 
-pub returns-in-Passed : goal.returns-in-Passed
-returns-in-Passed c =
-    let passes : let a = c.args in run_checked a.net a.run ≡ Passed =
-    sym c.check_run-c.ensures ∙ c.in-Passed.is in
-    let wrote : let a = c.args in Wrote (replicate 2048 0) 0 ((card_of run_card a.net).text a.run) c.put_run-n.result c.put_run-n.new.out =
-    let a = c.args in
-    run_written a.net (replicate 2048 0) a.run (omega arith) passes c.put_run-n.ensures in
-    card_answered passes wrote c.respond.ensures
+pub returns : goal.returns
+returns c = let a = c.args in
+    let passes : run_checked a.net a.run ≡ Passed = sym c.check_run.ensures ∙ c.in_ok-check_run.was in
+    card_answered passes (run_written a.net (replicate 2048 0) a.run (omega arith) passes c.put_run-n.ensures) c.respond.ensures

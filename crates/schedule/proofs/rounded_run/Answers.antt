@@ -1,25 +1,25 @@
 -- The loop keeps the rounded firings so far and the running sum of the waits (`Rounding`).
 use native.Mathlib.Omega.{arith}
-use Rattle.schedule.proofs.Rounds.{rounding_start, rounding_more, rounding_small, rounding_done}
+use Rattle.std.proofs.Common.{◌≤◌, length, rules, length-take-le, ◌≡◌}
+use Rattle.run.specs.Run.{no_firing}
+use Rattle.schedule.proofs.Rounds.{in_front, rounding_start, rounding_more, rounding_done}
 use Rattle.schedule.proofs.rounded_run.Goals as goal
 
 pub loop-i-init : goal.loop-i-init
 loop-i-init c = rounding_start c.args.run
 
-pub whole_wait-requires : goal.whole_wait-requires
-whole_wait-requires c = rounding_small c.args.run c.loop-i.invariant
-
-pub overflow_add-instant : goal.overflow_add-instant
-overflow_add-instant c = omega (arith, rounding_small c.args.run c.loop-i.invariant)
-
-pub loop-i-smaller : goal.loop-i-smaller
-loop-i-smaller c = omega (arith, c.loop-i-test.true)
-
 pub loop-i-preserved : goal.loop-i-preserved
-loop-i-preserved c = rounding_more c.args.run c.loop-i.invariant (rw (← c.counted-count.ensures) c.loop-i-test.true) (omega arith) c.whole_wait.ensures
-
-pub whole_wait-requires-2 : goal.whole_wait-requires-2
-whole_wait-requires-2 c = rounding_small c.args.run c.loop-i.invariant
+loop-i-preserved c =
+    let r = c.args.run in
+    let l = c.loop-i in
+    let long : length r.firings ≡ 64 = search rules in
+    let front = in_front c.min-count.result r.firings no_firing l.i (omega (arith, c.min-count.ensures)) c.loop-i-test.true in
+    rw front.1 (rounding_more r l.invariant (omega (arith, c.min-count.ensures)) (rw (← front.1) (omega arith)) (rw front.1 at c.whole_wait.ensures))
 
 pub returns : goal.returns
-returns c = rounding_done c.args.run c.loop-i.invariant c.counted-count.ensures c.loop-i-test.false c.whole_wait-2.ensures
+returns c =
+    let r = c.args.run in
+    let n = c.min-count.result in
+    let long : length r.firings ≡ 64 = search rules in
+    let few : n ≤ length r.firings = omega (arith, c.min-count.ensures) in
+    rounding_done r c.loop-i.invariant c.min-count.ensures (omega (arith, length-take-le n r.firings few)) c.whole_wait-2.ensures

@@ -1,18 +1,16 @@
 -- Each way out is a case of the definition.
-use mathlib.Core.Path.{ap}
-use Rattle.schedule.specs.declared.Collected.{Collected}
-use Rattle.schedule.proofs.Timetables.{timetabled_refused, timetabled_fails, timetabled_met}
+use Rattle.std.proofs.Common.{sym, ◌∙◌}
+use Rattle.reply.proofs.Exit.{exits}
+use Rattle.schedule.proofs.Timetables.{timetabled_refused, timetabled_found}
 use Rattle.schedule.proofs.timetable.Goals as goal
 
-pub returns-in_default : goal.returns-in_default
-returns-in_default c = let a = c.args in
-    rw c.no_run-none.ensures (timetabled_refused a.net a.order (ap (λ (r : Collected). r.checked) c.collect-w.ensures)
-    c.in_default.is)
+pub returns-in_err-windows : goal.returns-in_err-windows
+returns-in_err-windows c = exits c.from_residual.ensures.1 ∙ timetabled_refused c.args.net c.args.order (sym c.collect.ensures ∙ c.in_err-windows.was)
 
-pub returns-then-e-ne0 : goal.returns-then-e-ne0
-returns-then-e-ne0 c = rw c.no_run-none.ensures
-    (timetabled_fails c.args.net c.args.order c.collect-w.ensures c.in-Passed.is c.find_earliest-e.ensures c.if-e-ne0.true)
+pub returns-in-Ok : goal.returns-in-Ok
+returns-in-Ok c = let a = c.args in
+    rw c.timetable_run.ensures (timetabled_found a.net a.order (sym c.collect.ensures ∙ c.in_ok-windows.was) c.in-Ok.ensures)
 
-pub returns : goal.returns
-returns c = rw c.timetable_run-run.ensures
-    (timetabled_met c.args.net c.args.order c.collect-w.ensures c.in-Passed.is c.find_earliest-e.ensures c.if-e-ne0.false)
+pub returns-in-Err : goal.returns-in-Err
+returns-in-Err c = let a = c.args in
+    timetabled_found a.net a.order (sym c.collect.ensures ∙ c.in_ok-windows.was) c.in-Err.ensures

@@ -5,4 +5,4 @@ use Rattle.session.proofs.Fronts.{put_front}
 use Rattle.session.proofs.put_refused.Goals as goal
 
 pub returns : goal.returns
-returns c = put_front (omega (arith, c.put_refusal-arg-1.given.0.1, refusal_short c.args.e)) c.put_refusal.ensures
+returns c = put_front (omega (arith, c.refusal_front-arg-1.given.0.1, refusal_short c.args.e)) c.refusal_front.ensures

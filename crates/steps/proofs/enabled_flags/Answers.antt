@@ -1,30 +1,16 @@
--- The slots passed say whether their transitions have enough tokens.
-use Rattle.std.proofs.Common.{◌≤◌, refl, ◌∙◌, arith}
-use native.Mathlib.Nat.{min-le_right}
-use Rattle.laws.specs.Arrays.{fill_start, fill_store, fill_done}
+-- Each slot says whether its number is a transition and enabled.
+use Rattle.std.proofs.Common.{ℕ, Bool, false, ◌&&◌, ltb, rules, arith}
+use Rattle.firing.specs.Semantics.{enough}
+use Rattle.steps.proofs.Calls.{made_at, flags_filled}
 use Rattle.steps.proofs.enabled_flags.Goals as goal
 
-pub loop-u-init : goal.loop-u-init
-loop-u-init c = fill_start _ _ _
-
-pub has_enough-requires : goal.has_enough-requires
-has_enough-requires c =
-    let within : (c.least-few.result ≤ 16) × (c.least-n.result ≤ 32) = (
-      rw c.least-few.ensures (min-le_right c.args.places 16),
-      rw c.least-n.ensures (min-le_right c.args.transitions 32),
-    ) in
-    let few = within in (few.0, omega arith)
-
-pub bounds-flags-u : goal.bounds-flags-u
-bounds-flags-u c =
-    let within : (c.least-few.result ≤ 16) × (c.least-n.result ≤ 32) = (
-      rw c.least-few.ensures (min-le_right c.args.places 16),
-      rw c.least-n.ensures (min-le_right c.args.transitions 32),
-    ) in
-    omega (arith, within)
-
-pub loop-u-preserved : goal.loop-u-preserved
-loop-u-preserved c = fill_store c.loop-u.invariant c.loop-u-test.true c.has_enough.ensures
-
 pub returns : goal.returns
-returns c = fill_done c.loop-u.invariant c.loop-u-test.false ∙ rw (c.least-few.ensures, c.least-n.ensures) refl
+returns c =
+    let t = c.within-takes.result in
+    let e = c.within-takes.ensures in
+    let m = c.args.marking.now in
+    let says : ℕ → Bool = λ u. ltb u t.transitions && enough t.weights.now t.places m u in
+    let made = c.from_fn.ensures.items in
+    rw (← e.weights, ← e.places, ← e.transitions)
+    (flags_filled (enough t.weights.now t.places m) t.transitions 32 c.from_fn.result made.long
+    (λ k l. made_at _ says _ (λ u y q called. search rules) c.from_fn.result 32 0 made.each k false (omega arith) (omega arith)))

@@ -1,26 +1,11 @@
--- The slots passed hold the start's tokens.
-use Rattle.std.proofs.Common.{◌<◌, refl, ◌∙◌, arith}
+-- The slots that count are copied.
+use Rattle.std.proofs.Common.{◌≡◌, min, length, replicate, arith, rules}
 use native.Mathlib.Nat.{min-le_right}
-use Rattle.laws.specs.Arrays.{fill_start, fill_store, fill_done}
+use Rattle.steps.proofs.Front.{copied_front}
 use Rattle.steps.proofs.start_marking.Goals as goal
 
-pub loop-p-init : goal.loop-p-init
-loop-p-init c = fill_start _ _ _
-
-pub bounds-start-p : goal.bounds-start-p
-bounds-start-p c =
-    let within : c.loop-p.p < 16 =
-    omega (arith, c.least-n.ensures, min-le_right c.args.places 16) in
-    within
-
-pub bounds-marking-p : goal.bounds-marking-p
-bounds-marking-p c =
-    let within : c.loop-p.p < 16 =
-    omega (arith, c.least-n.ensures, min-le_right c.args.places 16) in
-    within
-
-pub loop-p-preserved : goal.loop-p-preserved
-loop-p-preserved c = fill_store c.loop-p.invariant c.loop-p-test.true refl
-
 pub returns : goal.returns
-returns c = fill_done c.loop-p.invariant c.loop-p-test.false ∙ rw c.least-n.ensures refl
+returns c =
+    let long : length c.args.start ≡ 16 = search rules in
+    rw (c.copy_from_slice.ensures.after, c.min-n.ensures)
+    (copied_front c.args.start (replicate 16 0) (min c.args.places 16) (omega (arith, min-le_right c.args.places 16)) (min-le_right c.args.places 16))

@@ -1,80 +1,20 @@
--- The invariant is `Descending`: what the windows that had their turn leave, and that those below `stop` are met. The windows are taken from the last, so i
--- itself falls. A window without an upper bound, or within it, asks nothing; one past it raises its origin.
-use Prim.Native.Nat.{◌+◌, ◌-◌, ◌<◌}
-use mathlib.Core.Bool.{false}
-use lib.ListN.{get_or}
+-- A window past its upper bound raises its origin.
 use native.Mathlib.Omega.{arith}
-use Rattle.sweep.specs.Arrays.{entry, uppers}
-use Rattle.sweep.proofs.Raising.{asks_none, asks_past}
-use Rattle.sweep.proofs.Descent.{back_start, back_stop, back_passed, back_inside, back_raised}
+use Rattle.std.proofs.Common.{get_or, ◌+◌, ◌-◌, ◌≡◌}
+use Rattle.timing.specs.Timing.{Wellformed}
+use Rattle.timing.specs.Windows.{windows}
+use Rattle.sweep.specs.Sweeps.{asked}
+use Rattle.sweep.proofs.Raising.{asks_past}
+use Rattle.sweep.proofs.Descent.{back_inside, back_raised}
 use Rattle.sweep.proofs.backward.Goals as goal
 
-pub loop-stop-init : goal.loop-stop-init
-loop-stop-init c = let a = c.args in back_start (entry a.origin.now) (uppers a.bounded.now a.high.now) a.top
-    a.bottom a.x.now c.requires.bottom_le_top.0 c.requires.bottom_le_top.1
-
-pub offset_bounds-x-o : goal.offset_bounds-x-o
-offset_bounds-x-o c =
-    let inside : entry c.args.origin.now (c.loop-stop.i - 1) < 65 =
-    back_inside c.loop-stop.invariant c.loop-stop-test.true c.requires.by_index c.requires.x_len.1 in
-    omega (arith, inside)
-
-pub bounds-x-o : goal.bounds-x-o
-bounds-x-o c =
-    let inside : entry c.args.origin.now (c.loop-stop.i - 1) < 65 =
-    back_inside c.loop-stop.invariant c.loop-stop-test.true c.requires.by_index c.requires.x_len.1 in
-    omega (arith, inside)
-
-pub offset_bounds-x-o-then-x-o : goal.offset_bounds-x-o-then-x-o
-offset_bounds-x-o-then-x-o c =
-    let inside : entry c.args.origin.now (c.loop-stop.i - 1) < 65 =
-    back_inside c.loop-stop.invariant c.loop-stop-test.true c.requires.by_index c.requires.x_len.1 in
-    omega (arith, inside)
-
-pub bounds-x-o-then-x-o : goal.bounds-x-o-then-x-o
-bounds-x-o-then-x-o c =
-    let inside : entry c.args.origin.now (c.loop-stop.i - 1) < 65 =
-    back_inside c.loop-stop.invariant c.loop-stop-test.true c.requires.by_index c.requires.x_len.1 in
-    omega (arith, inside)
-
-pub loop-stop-preserved-then-x-o : goal.loop-stop-preserved-then-x-o
-loop-stop-preserved-then-x-o c =
-    let inside : entry c.args.origin.now (c.loop-stop.i - 1) < 65 =
-    back_inside c.loop-stop.invariant c.loop-stop-test.true c.requires.by_index c.requires.x_len.1 in
-    let a = c.args in
-    let l = c.loop-stop in
-    let p = l.i - 1 in
-    back_raised l.invariant c.loop-stop-test.true c.requires.by_index (omega (arith, inside, c.requires.x_len.0, l.invariant.swept.size))
-    (get_or l.x (p + 1) 0 - get_or a.high.now p 0)
-    (asks_past (get_or a.bounded.now p false) (get_or l.x (p + 1) 0) (get_or a.high.now p 0)
-    c.if-bounded-i.true) c.if-x-o.true
-    c.lower-from.result c.lower-from.ensures
-    c.window_of.result c.lower-stop.result c.window_of.ensures c.lower-stop.ensures
-
-pub loop-stop-preserved-else-x-o : goal.loop-stop-preserved-else-x-o
-loop-stop-preserved-else-x-o c = let a = c.args in
-    let l = c.loop-stop in
-    let p = l.i - 1 in
-    back_passed l.invariant c.loop-stop-test.true
-    (omega (
-      arith,
-      asks_past (get_or a.bounded.now p false) (get_or l.x (p + 1) 0) (get_or a.high.now p 0)
-          c.if-bounded-i.true,
-    ))
-
-pub loop-stop-preserved-else-h-t : goal.loop-stop-preserved-else-h-t
-loop-stop-preserved-else-h-t c = let a = c.args in
-    let l = c.loop-stop in
-    let p = l.i - 1 in
-    back_passed l.invariant c.loop-stop-test.true
-    (omega (arith, asks_past (get_or a.bounded.now p false) (get_or l.x (p + 1) 0) (get_or a.high.now p 0) c.if-bounded-i.true))
-
-pub loop-stop-preserved : goal.loop-stop-preserved
-loop-stop-preserved c = let a = c.args in
-    let l = c.loop-stop in
-    let p = l.i - 1 in
-    back_passed l.invariant c.loop-stop-test.true
-    (omega (arith, asks_none (get_or a.bounded.now p false) (get_or l.x (p + 1) 0) (get_or a.high.now p 0) c.if-bounded-i.false))
-
-pub returns : goal.returns
-returns c = back_stop c.loop-stop.invariant c.loop-stop-test.false
+pub loop-stop-preserved-then-x-origin : goal.loop-stop-preserved-then-x-origin
+loop-stop-preserved-then-x-origin c = let l = c.loop-stop in
+    let r = c.requires in
+    let t = get_or l.x (l.i - 1 + 1) 0 in
+    let earlier : Wellformed (windows c.args.windows.now) c.args.top = λ j h. r.listed.earlier j (omega arith) in
+    let asks : t - c.from-high.result ≡ asked (windows c.args.windows.now (l.i - 1)).high t = rw c.from-high.ensures (asks_past c.in-Some.is t) in
+    back_raised l.invariant c.loop-stop-test.true earlier
+    (omega (arith, back_inside l.invariant c.loop-stop-test.true earlier (omega arith), l.invariant.swept.size))
+    (t - c.from-high.result) asks c.if-x-origin.true c.min-from.result c.min-from.ensures
+    c.saturating_sub.result c.min-stop.result c.saturating_sub.ensures c.min-stop.ensures

@@ -1,55 +1,41 @@
--- The invariant is `Settling`: each round makes one more instant final. The tests on the indices that rose say what a round came to.
+-- The tests on the indices that rose say what a round came to.
+use mathlib.Core.Path.{refl}
 use native.Mathlib.Numerals.{add-one}
 use native.Mathlib.Omega.{arith}
-use mathlib.Core.Bool.{false}
-use lib.ListN.{get_or}
 use Rattle.sweep.proofs.Raising.{upper_closed}
-use Rattle.sweep.proofs.Rounds.{back_size, settle_start, settle_none, settle_started, forth_from, forth_follows, forth_small, settle_done}
+use Rattle.sweep.proofs.Rounds.{settle_start, settle_none, settle_started, forth_from, forth_follows, forth_small, settle_done}
 use Rattle.sweep.proofs.Rounds.{settle_above, settle_more, settle_spent}
+use Rattle.timing.specs.Windows.{no_window}
+use lib.ListN.{get_or}
 use Rattle.sweep.proofs.settle.Goals as goal
 
-pub loop-round-init : goal.loop-round-init
-loop-round-init c = let a = c.args in
-    let p = c.requires.listed in
-    settle_start p.few p.earlier (λ i l. upper_closed (get_or a.bounded.now i false) (get_or a.high.now i 0)) c.requires.entered
+pub loop-init : goal.loop-init
+loop-init c = let p = c.requires.listed in
+    settle_start p.few p.earlier (λ i l. upper_closed (get_or c.args.windows.now i no_window).interval.latest) c.requires.entered
 
-pub backward-from-requires : goal.backward-from-requires
-backward-from-requires c = let p = c.requires.listed in
-    let s = c.loop-round.invariant in
-    let l = s.within in
-    record { x_len = (s.size, omega (arith, p.few)); by_index = λ j h. p.earlier j (omega arith); bottom_le_top = (s.below, s.met) }
-
-pub returns-then-from-top : goal.returns-then-from-top
-returns-then-from-top c = settle_none c.loop-round.invariant c.backward-from.ensures c.if-from-top.true
+pub returns-in_default : goal.returns-in_default
+returns-in_default c = settle_none c.loop.invariant c.in_default.ensures refl
 
 pub returns-then-start_rises : goal.returns-then-start_rises
-returns-then-start_rises c = settle_started c.loop-round.invariant c.backward-from.ensures c.if-start_rises.true
+returns-then-start_rises c = settle_started c.loop.invariant c.in-Some.ensures.0 c.if-start_rises.true
 
-pub forward-risen-requires : goal.forward-risen-requires
-forward-risen-requires c = let p = c.requires.listed in
-    let s = c.loop-round.invariant in
-    let b = c.backward-from.ensures in
-    record {
-      x_len = (back_size s b, p.few, forth_from s b);
-      by_index = (p.earlier, p.small);
-      by_index_2 = forth_follows s b;
-      by_index_3 = forth_small s b;
-    }
+pub forward-requires : goal.forward-requires
+forward-requires c = let s = c.loop.invariant in
+    let b = c.in-Some.ensures.0 in
+    record { listed = c.requires.listed; below = forth_from s b; follows = forth_follows s b; small = forth_small s b }
 
-pub returns-then-to-eq0 : goal.returns-then-to-eq0
-returns-then-to-eq0 c = settle_done c.loop-round.invariant c.backward-from.ensures c.forward-risen.ensures.0 c.if-start_rises.false c.if-to-eq0.true
+pub returns-in_default-forward : goal.returns-in_default-forward
+returns-in_default-forward c = settle_done c.loop.invariant c.in-Some.ensures.0 c.in_default-forward.ensures c.if-start_rises.false refl
 
-pub returns-then-to-k : goal.returns-then-to-k
-returns-then-to-k c = settle_above c.loop-round.invariant c.backward-from.ensures c.forward-risen.ensures.0 c.if-to-k.true
+pub returns-then-risen-windows : goal.returns-then-risen-windows
+returns-then-risen-windows c = settle_above c.loop.invariant c.in-Some.ensures.0 c.in-Some-forward.ensures.0 c.if-risen-windows.true
 
-pub loop-round-smaller : goal.loop-round-smaller
-loop-round-smaller c = omega arith
-
-pub loop-round-preserved : goal.loop-round-preserved
-loop-round-preserved c = let l = c.loop-round in
-    let e = c.forward-risen.ensures in
-    rw (add-one l.round)
-    (settle_more l.invariant c.backward-from.ensures e.0 c.if-from-top.false e.1 e.2 c.if-start_rises.false c.if-to-eq0.false c.if-to-k.false)
+pub loop-preserved : goal.loop-preserved
+loop-preserved c = let l = c.loop in
+    let b = c.in-Some.ensures in
+    let f = c.in-Some-forward.ensures in
+    rw (add-one l.counter)
+    (settle_more l.invariant b.0 f.0 (λ e. omega (arith, b.1)) f.1 f.2 c.if-start_rises.false c.if-risen-windows.false)
 
 pub returns : goal.returns
-returns c = settle_spent c.loop-round.invariant c.loop-round-test.false
+returns c = settle_spent c.loop.invariant (omega (arith, c.loop.invariant.size))

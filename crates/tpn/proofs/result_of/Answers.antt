@@ -5,22 +5,22 @@ use Rattle.tpn.proofs.Results.{length_fits, length_told, code_fits, refusal_fits
 use Rattle.tpn.proofs.result_of.Goals as goal
 
 pub overflow_cast-result : goal.overflow_cast-result
-overflow_cast-result c = record { sfits = length_fits c.requires c.in-Written.is }
+overflow_cast-result c = record { sfits = length_fits c.requires c.in-Ok.is }
 
 pub overflow_add-code : goal.overflow_add-code
 overflow_add-code c =
     record {
-      fits = lt_trans (code_fits c.requires c.in-Refused.is c.number_of-number.ensures c.position_of-place.ensures) (lit< tt);
+      fits = lt_trans (code_fits c.requires c.in-Err.is c.number-number.ensures c.position-place.ensures) (lit< tt);
     }
 
-pub overflow_cast-result-in-Refused : goal.overflow_cast-result-in-Refused
-overflow_cast-result-in-Refused c = record { sfits = code_fits c.requires c.in-Refused.is c.number_of-number.ensures c.position_of-place.ensures }
+pub overflow_cast-result-in-Err : goal.overflow_cast-result-in-Err
+overflow_cast-result-in-Err c = record { sfits = code_fits c.requires c.in-Err.is c.number-number.ensures c.position-place.ensures }
 
 pub overflow_sub-result : goal.overflow_sub-result
-overflow_sub-result c = refusal_fits c.requires c.in-Refused.is c.number_of-number.ensures c.position_of-place.ensures
+overflow_sub-result c = refusal_fits c.requires c.in-Err.is c.number-number.ensures c.position-place.ensures
 
-pub returns-in-Written : goal.returns-in-Written
-returns-in-Written c = length_told c.requires c.in-Written.is
+pub returns-in-Ok : goal.returns-in-Ok
+returns-in-Ok c = length_told c.requires c.in-Ok.is
 
-pub returns-in-Refused : goal.returns-in-Refused
-returns-in-Refused c = refusal_told c.requires c.in-Refused.is c.number_of-number.ensures c.position_of-place.ensures
+pub returns-in-Err : goal.returns-in-Err
+returns-in-Err c = refusal_told c.requires c.in-Err.is c.number-number.ensures c.position-place.ensures

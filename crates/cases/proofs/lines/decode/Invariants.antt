@@ -1,6 +1,6 @@
--- Each turn reads one byte of the text, and a byte is written only where the buffer has room.
-use Rattle.std.proofs.Common.{length, ◌-◌}
+-- The bytes are written into the buffer that was lent.
+use Rattle.std.proofs.Common.{◌≡◌}
 use Rattle.cases.proofs.lines.decode.Given as goal
 
-abbrev pub decreases-loop-i : goal.decreases-loop-i
-decreases-loop-i l = length l.s - l.i
+abbrev pub invariant-loop-b : goal.invariant-loop-b
+invariant-loop-b l = l.w.out.ghost_name ≡ l.initial.w.out.ghost_name

@@ -1,6 +1,6 @@
 -- The dot stands behind the number.
-use Rattle.laws.specs.Writing.{puts_then}
+use Rattle.text.proofs.Writing.{writes_then}
 use Rattle.engine.proofs.process_text.put_part.Goals as goal
 
 pub returns : goal.returns
-returns c = puts_then c.put_number-to.ensures c.put_byte.ensures
+returns c = writes_then c.put_number.ensures c.put_byte.ensures
