@@ -312,8 +312,6 @@ pub fn play(net: Net, run: Run) -> Played
         };
         state.now = instant;
     }
-    Played {
-        checked: Ok(()),
-        state,
-    }
+    let checked = Ok(());
+    Played { checked, state }
 }
