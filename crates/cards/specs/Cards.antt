@@ -17,12 +17,15 @@ on_net (Err r) f = refused r
 abbrev pub card_of : {A : Type 0} → (ℕ → ℕ → Form A) → Net → Form A
 card_of card net = card net.sheet net.transitions
 
--- the whole of an input as a run card, and as an order card, of a net
+-- the whole of an input as a card of a net, whichever its form: a run card, and an order card
+abbrev pub read_card : {A : Type 0} → (ℕ → ℕ → Form A) → Net → List ℕ → Found A
+read_card card net s = on_net (net_card.check net 1) (alone (card_of card net) s)
+
 abbrev pub read_run : Net → List ℕ → Found Run
-read_run net s = on_net (net_card.check net 1) (alone (card_of run_card net) s)
+read_run = read_card run_card
 
 abbrev pub read_order : Net → List ℕ → Found Order
-read_order net s = on_net (net_card.check net 1) (alone (card_of order_card net) s)
+read_order = read_card order_card
 
 -- a net card and, right behind it, a card of that net
 abbrev pub both_cards : {A : Type 0} → (ℕ → ℕ → Form A) → List ℕ → Found (Net × A)
@@ -38,22 +41,28 @@ order_cards = both_cards order_card
 abbrev pub two_runs : List ℕ → Found (Net × (Run × Run))
 two_runs = follow (front net_card) (λ net. follow (front (card_of run_card net)) (λ _. alone (card_of run_card net)))
 
--- a run, an order and two runs of a net, handed over as values: the net first
+-- what has a card of a net, a run, an order and two runs of it, handed over as values: the net first
+abbrev pub card_checked : {A : Type 0} → (ℕ → ℕ → Form A) → Net → A → Checked
+card_checked card net a = also (net_card.check net 1) ((card_of card net).check a 1)
+
 abbrev pub run_checked : Net → Run → Checked
-run_checked net r = also (net_card.check net 1) ((card_of run_card net).check r 1)
+run_checked = card_checked run_card
 
 abbrev pub order_checked : Net → Order → Checked
-order_checked net o = also (net_card.check net 1) ((card_of order_card net).check o 1)
+order_checked = card_checked order_card
 
 abbrev pub two_runs_checked : Net → Run → Run → Checked
 two_runs_checked net x y = also (net_card.check net 1) (also ((card_of run_card net).check x 1) ((card_of run_card net).check y 1))
 
--- the cards of a run and of an order
+-- the card of a value, of a run and of an order
+abbrev pub card_text : {A : Type 0} → (ℕ → ℕ → Form A) → Net → A → Outcome
+card_text card net a = written_if (card_checked card net a) ((card_of card net).text a)
+
 abbrev pub run_text : Net → Run → Outcome
-run_text net r = written_if (run_checked net r) ((card_of run_card net).text r)
+run_text = card_text run_card
 
 abbrev pub order_text : Net → Order → Outcome
-order_text net o = written_if (order_checked net o) ((card_of order_card net).text o)
+order_text = card_text order_card
 
 -- the input that a net and a card behind it make
 abbrev pub input_of : {A : Type 0} → (ℕ → ℕ → Form A) → Net → A → List ℕ

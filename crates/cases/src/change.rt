@@ -5,7 +5,8 @@ use net::Net;
 use reply::Refusal;
 use run::{Order, Run};
 
-// The keys: nine of a net, three of a run or an order, three of a run alone. `Sheet` is the net's, `CardSheet` that of the run or order.
+// The keys: nine of a net, three of a run or an order, three of a run alone. `Sheet` is the net's, `CardSheet` that of the run or order. `has_key` and
+// `change_net` name all of them; the last arm of another match is for all other keys, which are too many for it.
 #[derive(Clone, Copy, PartialEq, Eq)]
 enum Key {
     Sheet,
@@ -43,7 +44,8 @@ const KEYS: [(&[u8], Key); 15] = [
     (b"rest=", Key::Rest),
 ];
 
-// What a case reads, and whether its cards are refused: a net, a run and an order of it, and another run, to rank the first with, which no line changes.
+// What a case reads, and whether its cards are refused: a net, a run and an order of it, and another run, to rank the first with, which no line changes. The
+// values are there whatever `read` says, since the lines of a case change them.
 #[derive(Clone, Copy)]
 pub struct Values {
     pub read: Result<(), Refusal>,
@@ -82,7 +84,15 @@ fn has_key(operation: Operation, key: Key) -> bool {
         Key::Denominator | Key::Wait | Key::Rest => {
             !operation.reads_net_alone() && !operation.reads_order()
         }
-        _ => true,
+        Key::Sheet
+        | Key::Places
+        | Key::Transitions
+        | Key::Start
+        | Key::Earliest
+        | Key::Latest
+        | Key::Unbounded
+        | Key::Take
+        | Key::Give => true,
     }
 }
 
@@ -111,7 +121,7 @@ fn change_net(n: &mut Net, c: Change) {
         Key::Unbounded => n.table[transition].latest = None,
         Key::Take => n.take[32 * place + transition] = tokens,
         Key::Give => n.give[16 * transition + place] = tokens,
-        _ => {}
+        Key::CardSheet | Key::Firings | Key::Fire | Key::Denominator | Key::Wait | Key::Rest => {}
     }
 }
 

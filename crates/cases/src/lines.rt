@@ -10,21 +10,17 @@ pub(crate) fn part(s: &[u8], from: usize, to: usize) -> &[u8] {
     s.get(from..to).unwrap_or(&[])
 }
 
-// The front of a buffer.
-pub(crate) fn front(buffer: &[u8; 16384], n: usize) -> &[u8] {
-    part(buffer, 0, n)
-}
-
 // The position behind the first such byte from a position on, or the text's end.
 pub(crate) fn behind(s: &[u8], at: usize, b: u8) -> usize
     ensures { (min (at + 1) (length s.now) ≤ result) × (result ≤ length s.now) }
 {
-    for i in at..s.len() {
-        if s[i] == b {
-            return i + 1;
-        }
+    let Some(rest) = s.get(at..) else {
+        return s.len();
+    };
+    match rest.iter().position(|c| *c == b) {
+        Some(bytes) => at + bytes + 1,
+        None => s.len(),
     }
-    s.len()
 }
 
 // The part of a text between the line at a position and another position.
@@ -114,9 +110,9 @@ fn read_byte(escape: Escape, b: u8) -> Option<(Escape, Option<u8>)> {
     }
 }
 
-// Writes the bytes that a part of a case stands for; how many, where it can be read and there is room. A backslash takes away the line's end behind it,
+// The bytes that a part of a case stands for, written into a buffer, where it can be read and there is room. A backslash takes away the line's end behind it,
 // and with two digits behind it stands for their byte.
-pub(crate) fn decode(s: &[u8], out: &mut [u8; 16384]) -> Option<usize> {
+pub(crate) fn decode<'a>(s: &[u8], out: &'a mut [u8; 16384]) -> Option<&'a [u8]> {
     let mut w = Writer::new(out);
     let mut escape = Escape::Outside;
     for b in s {
@@ -126,5 +122,6 @@ pub(crate) fn decode(s: &[u8], out: &mut [u8; 16384]) -> Option<usize> {
             w.put_byte(b);
         }
     }
-    (w.at <= 16384).then_some(w.at)
+    let n = w.at;
+    out.get(..n)
 }

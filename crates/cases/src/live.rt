@@ -31,9 +31,13 @@ fn entered(w: &mut Writer, e: Entered) -> OpenRun {
     e.run
 }
 
-// What a line with a number is answered, and the record behind it. Other than the answers of `session`, these enter firings in a record that is lent, and
+// What the line with a number is answered, and the record behind it. Other than the answers of `session`, these enter firings in a record that is lent, and
 // lend an output of any length.
-fn tell(w: &mut Writer, run: OpenRun, n: usize, entry: Entry, out: &mut [u8]) -> OpenRun {
+fn tell(w: &mut Writer, run: OpenRun, n: usize, line: &[u8], out: &mut [u8]) -> OpenRun {
+    let Some(entry) = session::read_entry(line) else {
+        console::put_refusal(w, Refusal::Malformed(n));
+        return run;
+    };
     match entry {
         Entry::Wait(parts) => entered(w, entering::enter_wait(run, parts)),
         Entry::Fire(t) => entered(w, lending::fire_once(run, t)),
@@ -52,10 +56,6 @@ fn tell(w: &mut Writer, run: OpenRun, n: usize, entry: Entry, out: &mut [u8]) ->
             trial::put_reply(w, r, out);
             run
         }
-        Entry::NoEntry => {
-            console::put_refusal(w, Refusal::Malformed(n));
-            run
-        }
     }
 }
 
@@ -67,9 +67,9 @@ pub(crate) fn put_answers(w: &mut Writer, start: OpenRun, size: usize, script: &
     // The next position is the one behind the line that was read.
     while at < script.len() {
         let next = lines::behind(script, at, b'\n');
-        let entry = session::read_entry(lines::part(script, at, next));
+        let line = lines::part(script, at, next);
         let mut lent = trial::prepared();
-        run = tell(w, run, n, entry, &mut lent[..size.min(16384)]);
+        run = tell(w, run, n, line, &mut lent[..size.min(16384)]);
         at = next;
         n = n.saturating_add(1);
     }

@@ -2,7 +2,8 @@
 use super::lines;
 
 // What a case tries. Those on values have a line `with` and changes behind what they read first, and those that read one card more a
-// line `card` and that card behind the changes.
+// line `card` and that card behind the changes. They are a closed set, as the keys of a change are: what is done for each is a match. The last arm of
+// such a match is for all other operations, which are too many for it.
 #[derive(Clone, Copy)]
 pub enum Operation {
     Replay,

@@ -27,12 +27,9 @@ pub(crate) fn prepared() -> [u8; 16384]
 
 // The first position from a given one on where an output has lost the pattern.
 fn touched_at(out: &[u8], from: usize) -> Option<usize> {
-    for i in from..out.len() {
-        if out[i] != pattern(i) {
-            return Some(i);
-        }
-    }
-    None
+    let mut places = out.iter().enumerate().skip(from);
+    let (i, _) = places.find(|(i, b)| **b != pattern(*i))?;
+    Some(i)
 }
 
 // What stands for a net, a run and an order whose cards are refused.
@@ -145,12 +142,12 @@ fn read_of(
 // The values of an operation: a net card and a card behind it, and the card that is read for the net as it was read.
 fn values_of(operation: Operation, input: &[u8], card: &[u8]) -> Values {
     let n = net_card::read_net(input);
-    let x = run_card::net_and_run(input);
-    let o = run_card::net_and_order(input);
+    let x = run_card::net_and::<Run>(input);
+    let o = run_card::net_and::<Order>(input);
     let (net, _) = n.unwrap_or((NO_NET, 0));
     let (_, run) = x.unwrap_or((NO_NET, NO_RUN));
     let (_, order) = o.unwrap_or((NO_NET, NO_ORDER));
-    let y = run_card::run_card(card, net.sheet, net.transitions);
+    let y = run_card::whole::<Run>(card, net.sheet, net.transitions);
     let (other, _) = y.unwrap_or((NO_RUN, 0));
     Values {
         read: read_of(operation, read(n), read(x), read(o), read(y)),
@@ -166,12 +163,12 @@ fn with_card(operation: Operation, values: Values, card: &[u8]) -> Values {
     let mut v = values;
     match operation {
         Operation::ReadRun => {
-            let r = run_card::read_run(v.net, card);
+            let r = run_card::read::<Run>(v.net, card);
             v.read = v.read.and(read(r));
             v.run = r.unwrap_or((NO_RUN, 0)).0;
         }
         Operation::ReadOrder => {
-            let o = run_card::read_order(v.net, card);
+            let o = run_card::read::<Order>(v.net, card);
             v.read = v.read.and(read(o));
             v.order = o.unwrap_or((NO_ORDER, 0)).0;
         }
@@ -183,10 +180,10 @@ fn with_card(operation: Operation, values: Values, card: &[u8]) -> Values {
 // What an operation that writes a value or ranks two runs replies.
 fn write_or_rank(operation: Operation, v: Values, out: &mut [u8]) -> Result<usize, Refusal> {
     match operation {
-        Operation::Run | Operation::RunValue | Operation::ReadRun => run_card::write_run(
+        Operation::Run | Operation::RunValue | Operation::ReadRun => run_card::write(
             v.net, v.run, out,
         ),
-        Operation::Order | Operation::OrderValue | Operation::ReadOrder => run_card::write_order(
+        Operation::Order | Operation::OrderValue | Operation::ReadOrder => run_card::write(
             v.net, v.order, out,
         ),
         Operation::RankValue => rank_reply(v.net, v.run, v.other, out),
@@ -296,18 +293,18 @@ impl<'a> Trial<'a> {
 
 // Runs a case, and writes what it got; 1 at 0 where the case cannot be read.
 pub(crate) fn put_outcome(w: &mut Writer, s: &[u8], case: Case) {
-    let mut input = [0u8; 16384];
-    let mut card = [0u8; 16384];
-    let i = lines::decode(lines::between(s, case.at, case.with), &mut input);
-    let c = lines::decode(lines::between(s, case.card, case.expect), &mut card);
-    match (case.operation, i, c) {
-        (Some(operation), Some(i), Some(c)) if case.end < s.len() => {
+    let mut buffer = [0u8; 16384];
+    let mut behind = [0u8; 16384];
+    let input = lines::decode(lines::between(s, case.at, case.with), &mut buffer);
+    let card = lines::decode(lines::between(s, case.card, case.expect), &mut behind);
+    match (case.operation, input, card) {
+        (Some(operation), Some(input), Some(card)) if case.end < s.len() => {
             let trial = Trial {
                 operation,
                 size: case.size,
-                input: lines::front(&input, i),
+                input,
                 changes: lines::between(s, case.with, case.card),
-                card: lines::front(&card, c),
+                card,
             };
             trial.put(w);
         }

@@ -3,14 +3,11 @@
 
 mod end_text;
 mod process_text;
+mod respond;
 
-ghost use Rattle.std.specs.Prelude.{◌≡◌, ◌≤◌, length};
+ghost use Rattle.std.specs.Prelude.{◌≡◌};
 ghost use Rattle.reply.specs.Respond.{Passed, answer, Responded};
-ghost use Rattle.run.specs.Run.{run_card, firings_of, order_of};
-ghost use Rattle.firing.specs.Semantics.{start_marking};
-ghost use Rattle.firing.specs.Tokens.{tokens};
 ghost use Rattle.firing.specs.Claims.{view};
-ghost use Rattle.causal.specs.Print.{process_text};
 ghost use Rattle.cards.specs.Cards.{run_checked, order_checked};
 ghost use Rattle.operations.specs.Replay.{end_text, replay_of, replay_values, replay_cards};
 ghost use Rattle.operations.specs.Round.{round_of, round_values, round_cards};
@@ -20,45 +17,14 @@ ghost use Rattle.operations.specs.Timetable.{timetable_of, timetable_values, tim
 use firing::State;
 use net::Net;
 use reply::Refusal;
+use respond::{End, Process, respond};
 use run::{Order, Run};
-
-// The card of a run as the answer, made in a buffer where the output might be too short for it.
-fn respond_run(run: Run, out: &mut [u8]) -> Result<usize, Refusal>
-    requires { length ((run_card 0 0).text run) ≤ 2048 }
-    ensures { Responded (answer ((run_card 0 0).text run)) out.old result out.new }
-{
-    if 2048 <= out.len() {
-        return Ok(run_card::put_run(out, run));
-    }
-    let mut card = [0u8; 2048];
-    let n = run_card::put_run(&mut card, run);
-    reply::respond(&card[..n], out)
-}
 
 // The end of a replay as the answer.
 pub fn respond_end(net: Net, st: State, out: &mut [u8]) -> Result<usize, Refusal>
     ensures { Responded (answer (end_text net (view st))) out.old result out.new }
 {
-    let fits = 1280 <= out.len();
-    if fits {
-        return Ok(end_text::put_end(out, net, st));
-    }
-    let mut text = [0u8; 1280];
-    let n = end_text::put_end(&mut text, net, st);
-    reply::respond(&text[..n], out)
-}
-
-// The process of a run as the answer.
-fn respond_process(net: Net, run: Run, out: &mut [u8]) -> Result<usize, Refusal>
-    requires { (tokens net (order_of (firings_of run)) (start_marking net) 0 ≡ Passed) × (length (process_text net (order_of (firings_of run))) ≤ 22001) }
-    ensures { Responded (answer (process_text net (order_of (firings_of run)))) out.old result out.new }
-{
-    if 22001 <= out.len() {
-        return Ok(process_text::put_process(out, net, run));
-    }
-    let mut text = [0u8; 22001];
-    let n = process_text::put_process(&mut text, net, run);
-    reply::respond(&text[..n], out)
+    respond::<1280, _>(End(&net, &st), out)
 }
 
 // The replay of a run that passed its check.
@@ -73,11 +39,14 @@ fn replay_checked(net: Net, run: Run, out: &mut [u8]) -> Result<usize, Refusal>
     respond_end(net, state, out)
 }
 
+// The two forms of an operation, over values and over cards, differ in where the values come from, not in a type: one function for both would take the
+// operation as a parameter, for two lines each. What an operation on values requires of a net and a run, these two have just checked.
+
 // Replays a run of a net, both handed over as values.
 pub fn replay(net: Net, run: Run, out: &mut [u8]) -> Result<usize, Refusal>
     ensures { Responded (replay_values net run) out.old result out.new }
 {
-    run_card::check_run(net, run)?;
+    run_card::check(net, run)?;
     replay_checked(net, run, out)
 }
 
@@ -85,7 +54,7 @@ pub fn replay(net: Net, run: Run, out: &mut [u8]) -> Result<usize, Refusal>
 pub fn replay_cards(input: &[u8], out: &mut [u8]) -> Result<usize, Refusal>
     ensures { Responded (replay_cards input.now) out.old result out.new }
 {
-    let (net, run) = run_card::net_and_run(input)?;
+    let (net, run) = run_card::net_and::<Run>(input)?;
     replay_checked(net, run, out)
 }
 
@@ -95,14 +64,14 @@ fn round_checked(net: Net, run: Run, out: &mut [u8]) -> Result<usize, Refusal>
     ensures { Responded (round_of net run) out.old result out.new }
 {
     steps::play(net, run).checked?;
-    respond_run(schedule::rounded_run(run), out)
+    respond::<2048, _>(&schedule::rounded_run(run), out)
 }
 
 // Rounds a run of a net to whole ticks, both handed over as values.
 pub fn round(net: Net, run: Run, out: &mut [u8]) -> Result<usize, Refusal>
     ensures { Responded (round_values net run) out.old result out.new }
 {
-    run_card::check_run(net, run)?;
+    run_card::check(net, run)?;
     round_checked(net, run, out)
 }
 
@@ -110,7 +79,7 @@ pub fn round(net: Net, run: Run, out: &mut [u8]) -> Result<usize, Refusal>
 pub fn round_cards(input: &[u8], out: &mut [u8]) -> Result<usize, Refusal>
     ensures { Responded (round_cards input.now) out.old result out.new }
 {
-    let (net, run) = run_card::net_and_run(input)?;
+    let (net, run) = run_card::net_and::<Run>(input)?;
     round_checked(net, run, out)
 }
 
@@ -120,14 +89,14 @@ fn timetable_checked(net: Net, order: Order, out: &mut [u8]) -> Result<usize, Re
     ensures { Responded (timetable_of net order) out.old result out.new }
 {
     let run = schedule::timetable(net, order)?;
-    respond_run(run, out)
+    respond::<2048, _>(&run, out)
 }
 
 // The earliest timetable of a firing order on a net, both handed over as values.
 pub fn timetable(net: Net, order: Order, out: &mut [u8]) -> Result<usize, Refusal>
     ensures { Responded (timetable_values net order) out.old result out.new }
 {
-    run_card::check_order(net, order)?;
+    run_card::check(net, order)?;
     timetable_checked(net, order, out)
 }
 
@@ -135,7 +104,7 @@ pub fn timetable(net: Net, order: Order, out: &mut [u8]) -> Result<usize, Refusa
 pub fn timetable_cards(input: &[u8], out: &mut [u8]) -> Result<usize, Refusal>
     ensures { Responded (timetable_cards input.now) out.old result out.new }
 {
-    let (net, order) = run_card::net_and_order(input)?;
+    let (net, order) = run_card::net_and::<Order>(input)?;
     timetable_checked(net, order, out)
 }
 
@@ -145,14 +114,14 @@ fn process_checked(net: Net, run: Run, out: &mut [u8]) -> Result<usize, Refusal>
     ensures { Responded (process_of net run) out.old result out.new }
 {
     steps::play(net, run).checked?;
-    respond_process(net, run, out)
+    respond::<22001, _>(Process(&net, &run), out)
 }
 
 // Derives the causal process of a run of a net, both handed over as values.
 pub fn process(net: Net, run: Run, out: &mut [u8]) -> Result<usize, Refusal>
     ensures { Responded (process_values net run) out.old result out.new }
 {
-    run_card::check_run(net, run)?;
+    run_card::check(net, run)?;
     process_checked(net, run, out)
 }
 
@@ -160,6 +129,6 @@ pub fn process(net: Net, run: Run, out: &mut [u8]) -> Result<usize, Refusal>
 pub fn process_cards(input: &[u8], out: &mut [u8]) -> Result<usize, Refusal>
     ensures { Responded (process_cards input.now) out.old result out.new }
 {
-    let (net, run) = run_card::net_and_run(input)?;
+    let (net, run) = run_card::net_and::<Run>(input)?;
     process_checked(net, run, out)
 }

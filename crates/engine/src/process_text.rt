@@ -1,6 +1,5 @@
 // The causal process of a run: where the tokens that each firing takes are from.
 ghost use Rattle.std.specs.Prelude.{◌≡◌, [], ◌∷◌, ◌++◌, map, ℕ, ◌+◌, ◌-◌, ◌≤◌, ◌<◌, List, length, get_or};
-ghost use Rattle.laws.specs.Writing.{Puts};
 ghost use Rattle.reply.specs.Respond.{Passed};
 ghost use Rattle.text.specs.Key.{bytes};
 ghost use Rattle.text.specs.Decimal.{decimal};
@@ -38,7 +37,8 @@ impl Model for Queue {
     ghost invariant = { IsQueue };
 }
 
-// A line of items in the making: whether it has no item yet, and whether tokens of the newest producer are among its items.
+// A line of items that is being written: whether it has no item yet, and whether tokens of the newest producer are among its items. The writer stays beside it:
+// in it, it would be lent anew for each line.
 #[derive(Clone, Copy)]
 struct Line {
     first: bool,
@@ -111,6 +111,7 @@ impl Queue {
     {
         let mut so_far = line;
         let mut need = count;
+        // Over the numbers: i is the producer's and is written, and `head` is set to it.
         for i in self.head..self.producers {
             if need == 0 {
                 break;
@@ -193,6 +194,7 @@ fn put_free(w: &mut Writer, linked: &[bool])
 {
     w.put_bytes(b"free=");
     let mut first = true;
+    // Over the numbers: i is the firing's, counted from 1, and is written.
     for i in 1..linked.len() {
         if !linked[i] {
             put_comma(w, first);
@@ -204,7 +206,7 @@ fn put_free(w: &mut Writer, linked: &[bool])
 }
 
 // The lines of the process of a run's firings. The tokens must allow the firings. The run stays a value: of a reference it is not told that it has 64 firings.
-fn put_process_lines(w: &mut Writer, net: &Net, run: Run)
+pub(crate) fn put_process_lines(w: &mut Writer, net: &Net, run: Run)
     requires { tokens net.now (order_of (firings_of run)) (start_marking net.now) 0 ≡ Passed }
     ensures { Writes w.old (process_text net.now (order_of (firings_of run))) w.new }
 {
@@ -221,14 +223,4 @@ fn put_process_lines(w: &mut Writer, net: &Net, run: Run)
     }
     put_left(w, queues);
     put_free(w, &linked[..count]);
-}
-
-// The process of a run's firings at the front of an output, as far as it fits, and how many bytes it has where it does. The tokens must allow the firings.
-pub(crate) fn put_process(out: &mut [u8], net: Net, run: Run) -> usize
-    requires { tokens net (order_of (firings_of run)) (start_marking net) 0 ≡ Passed }
-    ensures { Puts out.old 0 (process_text net (order_of (firings_of run))) result out.new }
-{
-    let mut w = Writer::new(out);
-    put_process_lines(&mut w, &net, run);
-    w.at
 }

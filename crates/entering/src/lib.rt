@@ -12,10 +12,11 @@ ghost use Rattle.open_run.specs.Open.{open_of, wait_of, fire_of, close_of, closi
 ghost use Rattle.entering.specs.Code.{Stands};
 
 use firing::{Attempt, State};
+use form::{Judge, Listed, Range};
 use net::Net;
 use open_run::{Closing, Entered, OpenRun};
 use reply::Refusal;
-use run::{Firing, Memory, Order, Run};
+use run::{Firing, Memory, NO_FIRING, Order, Run};
 use std::array;
 use steps::Terms;
 
@@ -39,7 +40,7 @@ fn is_blank_behind(run: Run) -> bool
 fn standing(run: OpenRun) -> Result<State, Refusal>
     ensures { Stands run result }
 {
-    if !run.running || run_card::check_run(run.net, run.run).is_err() {
+    if !run.running || run_card::check(run.net, run.run).is_err() {
         return Err(Refusal::ClosedRun);
     }
     let played = steps::play(run.net, run.run);
@@ -57,13 +58,12 @@ fn standing(run: OpenRun) -> Result<State, Refusal>
 fn without_steps(net: Net, memory: Memory, denominator: u32, running: bool) -> OpenRun
     ensures { result ≡ record { net = net; run = no_steps net memory denominator; running = running } }
 {
-    let none = Firing { wait: 0, fire: 0 };
     let run = Run {
         sheet: net.sheet,
         memory,
         denominator,
         count: 0,
-        firings: [none; 64],
+        firings: [NO_FIRING; 64],
         rest: 0,
     };
     OpenRun { net, run, running }
@@ -74,7 +74,7 @@ fn check_opening(net: Net, denominator: u32) -> Result<(), Refusal>
     ensures { result ≡ also (net_card.check net 1) (ranged 1 1000 denominator 0) }
 {
     net_card::check_net(net)?;
-    form::check_range(denominator as u64, 1, 1000, 0)
+    Range(1, 1000).check(denominator as u64, 0)
 }
 
 // Opens a run on a net.
@@ -96,7 +96,7 @@ fn check_wait(run: OpenRun, parts: u32) -> Result<(), Refusal>
 {
     standing(run)?;
     let sum = run.run.rest as u64 + parts as u64;
-    form::check_range(sum, 0, 10000000, run.run.count + 1)
+    Range(0, 10000000).check(sum, run.run.count + 1)
 }
 
 // A record with a wait added.
@@ -109,7 +109,7 @@ fn with_wait(run: OpenRun, parts: u32) -> OpenRun
     waited
 }
 
-// Enters a wait.
+// Enters a wait. A firing is entered likewise, but what is added may be made only once its own check has passed.
 pub fn enter_wait(run: OpenRun, parts: u32) -> Entered
     ensures { result ≡ wait_of run parts }
 {
@@ -130,12 +130,7 @@ fn judge(net: Net, run: Run, state: State, t: u32) -> Result<(), Refusal>
     requires { (run.count < 64) × (t < 32) }
     ensures { result ≡ judged net run.denominator state t (suc run.count) }
 {
-    let terms = Terms {
-        places: net.places,
-        transitions: net.transitions,
-        memory: run.memory,
-        denominator: run.denominator,
-    };
+    let terms = Terms::of(&net, run.memory, run.denominator);
     let t = t as usize;
     let attempt = Attempt {
         t,
@@ -144,14 +139,7 @@ fn judge(net: Net, run: Run, state: State, t: u32) -> Result<(), Refusal>
         number: run.count + 1,
     };
     let mut after = state;
-    steps::step(
-        &net.take,
-        &net.give,
-        terms,
-        attempt,
-        &mut after.marking,
-        &mut after.since,
-    )
+    steps::step(terms, attempt, &mut after.marking, &mut after.since)
 }
 
 // What is found against a firing of t.
@@ -160,8 +148,8 @@ fn check_fire(run: OpenRun, t: u32) -> Result<(), Refusal>
 {
     let state = standing(run)?;
     let number = run.run.count + 1;
-    form::check_range(run.run.count as u64, 0, 63, number)?;
-    form::check_listed(t as u64, run.net.transitions as u64, number)?;
+    Range(0, 63).check(run.run.count as u64, number)?;
+    Listed(run.net.transitions as u64).check(t as u64, number)?;
     judge(run.net, run.run, state, t)
 }
 
@@ -213,7 +201,7 @@ fn respond_closing(run: OpenRun, rest: u32, out: &mut [u8]) -> Result<usize, Ref
 {
     check_wait(run, rest)?;
     let last = with_wait(run, rest);
-    run_card::write_run(last.net, last.run, out)
+    run_card::write(last.net, last.run, out)
 }
 
 // Closes a run with a rest: its card, and the record behind it.

@@ -1,47 +1,72 @@
 // Lines of a card: read at a position, checked as values, written behind one another.
 #![tactic(auto)]
 
-ghost use Rattle.std.specs.Prelude.{◌≡◌, ◌++◌, true};
+ghost use Rattle.std.specs.Prelude.{◌≡◌, ℕ, ◌++◌, true};
+ghost use Rattle.reply.specs.Respond.{Checked};
 ghost use Rattle.text.specs.Decimal.{field};
 ghost use Rattle.text.specs.Writer.{Writes};
 ghost use Rattle.form.specs.Form.{keyed};
 ghost use Rattle.form.specs.Line.{ranged, listed, formed, number, items_text};
-ghost use Rattle.form.specs.Sheet.{sheet_checked, sheet_of};
+ghost use Rattle.form.specs.Sheet.{sheet_checked};
 ghost use Rattle.form.specs.Code.{keyed_field};
 
 use reply::Refusal;
 use text::Writer;
 
-// A number against its range.
-pub fn check_range(n: u64, low: u64, high: u64, line: usize) -> Result<(), Refusal>
-    ensures { result ≡ ranged low high n line }
-{
-    if n < low || high < n {
-        return Err(Refusal::OutOfRange(line));
-    }
-    Ok(())
+// What a number on a line is checked against.
+pub trait Judge: Copy {
+    // What is found against a number, and the line that it stands on.
+    ghost judge: { Self → ℕ → ℕ → Checked };
+
+    fn check(self, n: u64, line: usize) -> Result<(), Refusal>
+        ensures { result ≡ judge self n line };
 }
 
-// A transition's number against the count of a net's transitions.
-pub fn check_listed(n: u64, transitions: u64, line: usize) -> Result<(), Refusal>
-    ensures { result ≡ listed transitions n line }
-{
-    if n < transitions {
+// The numbers from the first to the second.
+#[derive(Clone, Copy)]
+pub struct Range(pub u64, pub u64);
+
+impl Judge for Range {
+    ghost judge = { λ r. ranged r.0 r.1 };
+
+    fn check(self, n: u64, line: usize) -> Result<(), Refusal> {
+        if n < self.0 || self.1 < n {
+            return Err(Refusal::OutOfRange(line));
+        }
         Ok(())
-    } else {
-        Err(Refusal::NoSuchTransition(line))
     }
 }
 
-// The sheet of a card against its range and the sheet of its net.
-pub fn check_sheet(n: u32, own: u32, line: usize) -> Result<(), Refusal>
-    ensures { result ≡ sheet_checked own n line }
-{
-    check_range(n as u64, 0, 9999, line)?;
-    if n != own {
-        return Err(Refusal::AnotherSheet(line));
+// The numbers of a net's transitions, of which there are so many.
+#[derive(Clone, Copy)]
+pub struct Listed(pub u64);
+
+impl Judge for Listed {
+    ghost judge = { λ t. listed t.0 };
+
+    fn check(self, n: u64, line: usize) -> Result<(), Refusal> {
+        if n < self.0 {
+            Ok(())
+        } else {
+            Err(Refusal::NoSuchTransition(line))
+        }
     }
-    Ok(())
+}
+
+// The sheet of a card's net, which is in its range.
+#[derive(Clone, Copy)]
+pub struct OwnSheet(pub u32);
+
+impl Judge for OwnSheet {
+    ghost judge = { λ own. sheet_checked own.0 };
+
+    fn check(self, n: u64, line: usize) -> Result<(), Refusal> {
+        Range(0, 9999).check(n, line)?;
+        if n != u64::from(self.0) {
+            return Err(Refusal::AnotherSheet(line));
+        }
+        Ok(())
+    }
 }
 
 // A reader of lines takes the input, the position and the number of the line, as the form of the line does whose `read` it equals: a cursor that is lent would
@@ -57,43 +82,18 @@ fn field_line(s: &[u8], at: usize, key: &[u8], line: usize) -> Result<(u32, usiz
     text::field_at(s, at + key.len(), true).ok_or(Refusal::Malformed(line))
 }
 
-// A line with a key and a number within its range: the number and the position behind the line.
-pub fn number_line(
+// A line with a key and a number that passes its check: the number and the position behind the line.
+pub fn number_line<J: Judge>(
     s: &[u8],
     at: usize,
     key: &[u8],
-    low: u64,
-    high: u64,
+    judge: J,
     line: usize,
 ) -> Result<(u32, usize), Refusal>
-    ensures { result ≡ (keyed key.now (number (ranged low high))).read s.now at line }
+    ensures { result ≡ (keyed key.now (number (J.judge judge))).read s.now at line }
 {
     let (value, next) = field_line(s, at, key, line)?;
-    check_range(value as u64, low, high, line)?;
-    Ok((value, next))
-}
-
-// A line with a key and the number of a transition.
-pub fn listed_line(
-    s: &[u8],
-    at: usize,
-    key: &[u8],
-    transitions: u64,
-    line: usize,
-) -> Result<(u32, usize), Refusal>
-    ensures { result ≡ (keyed key.now (number (listed transitions))).read s.now at line }
-{
-    let (value, next) = field_line(s, at, key, line)?;
-    check_listed(value as u64, transitions, line)?;
-    Ok((value, next))
-}
-
-// The line with the sheet of a card, which is to be that of its net.
-pub fn sheet_line(s: &[u8], at: usize, own: u32, line: usize) -> Result<(u32, usize), Refusal>
-    ensures { result ≡ (sheet_of own).read s.now at line }
-{
-    let (value, next) = field_line(s, at, b"sheet=", line)?;
-    check_sheet(value, own, line)?;
+    judge.check(u64::from(value), line)?;
     Ok((value, next))
 }
 

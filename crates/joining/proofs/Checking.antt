@@ -4,9 +4,10 @@ use native.Mathlib.Omega.{arith}
 use mathlib.Core.Path.{◌≡◌, refl, sym, ap, ◌∙◌}
 use mathlib.Core.Bool.{Bool, true, false, ◌&&◌, and-false}
 use mathlib.Core.List.{List}
-use lib.ListN.{length, get_or}
+use lib.ListN.{length, get_or, take}
 use lib.Dec.{leb, eqb}
 use Rattle.std.proofs.lemmas.Bool.{le-leb, lt-leb}
+use Rattle.std.proofs.lemmas.List.{get_or-take, length-take-le}
 use Rattle.laws.specs.Each.{Each}
 use Rattle.reply.specs.declared.Refusal.TheVariants.{BadPairs, UnequalStarts, TooLarge}
 use Rattle.reply.specs.Respond.{refusal, Passed}
@@ -89,16 +90,22 @@ module _ {a b : Net} {list : List ℕ} {pairs : List (List ℕ)} {rest : List �
           rw (right, equal, lt-leb (a.transitions + b.transitions) 32 h, and-false (leb (a.places + length (unpaired vs b.places)) 16)) refl
 
       -- the places laid out, or too many
-      module _ {named : List Bool} (marks : (k : ℕ) → k < 16 → get_or named k false ≡ among k (numbers_on 1 pairs)) {source : List (Option ℕ)}
+      module _ (named : List Bool) (long : length named ≡ 16) (marks : (k : ℕ) → k < 16 → get_or named k false ≡ among k (numbers_on 1 pairs)) {source : List (Option ℕ)}
           (partnered : Partnered (pairs_in pairs) source) where
-        placed : {r : Option (List (Option ℕ))} → LaidOut source a.places named b.places r
+        placed : {r : Option (List (Option ℕ))} → LaidOut source a.places (take b.places named) r
             → MatchOption r (16 < a.places + length (unpaired vs b.places)) (λ at. (length at ≤ 16) × (places_in at ≡ sources vs a.places b.places))
-        placed laid = laid.laid vs (λ k h. marks k h ∙ ap (among k) twos) (rw same at partnered)
+        placed laid =
+            let few : b.places ≤ 16 = omega (arith, (net_places b g.second).1) in
+            let cut : length (take b.places named) ≡ b.places = length-take-le b.places named (omega (arith, long, few)) in
+            rw cut at (laid.laid vs
+            (λ k h. let inside : k < b.places = omega (arith, h, cut) in
+            get_or-take b.places named k false inside ∙ marks k (omega (arith, inside, few)) ∙ ap (among k) twos)
+            (rw same at partnered))
 
-        pub too_many : LaidOut source a.places named b.places None → join_of a b list ≡ refusal TooLarge
+        pub too_many : LaidOut source a.places (take b.places named) None → join_of a b list ≡ refusal TooLarge
         too_many laid = rw (right, equal, lt-leb (a.places + length (unpaired vs b.places)) 16 (placed laid)) refl
 
-        module _ {at : List (Option ℕ)} (laid : LaidOut source a.places named b.places (Some at)) where
+        module _ {at : List (Option ℕ)} (laid : LaidOut source a.places (take b.places named) (Some at)) where
           counted : length at ≡ a.places + length (unpaired vs b.places)
           counted = sym (length_places at) ∙ ap length (placed laid).1 ∙ length_sources vs a.places b.places
 

@@ -105,7 +105,7 @@ unpaired_grows vs q (suc more) = rw add-suc (omega (arith, unpaired_grows vs q m
 
 -- what is named of the second net, by some pairs
 abbrev Marks : List (ℕ × ℕ) → List Bool → Type 0
-Marks vs named = (q : ℕ) → q < 16 → get_or named q false ≡ among q (seconds vs)
+Marks vs named = (q : ℕ) → q < length named → get_or named q false ≡ among q (seconds vs)
 
 -- q places of the second net are laid out
 pub record Laying (source : List (Option ℕ)) (places : ℕ) (named : List Bool) (laid : List (Option ℕ)) (count q : ℕ) : Type 0 where
@@ -129,28 +129,29 @@ laying_start source places named few long within =
     }
 
 module _ {source : List (Option ℕ)} {places : ℕ} {named : List Bool} {laid : List (Option ℕ)} {count q : ℕ} (w : Laying source places named laid count q)
-    (few : q < 16) where
+    (few : length named ≤ 16) (more : q < length named) where
   pub laying_named : get_or named q false ≡ true → Laying source places named laid count (q + 1)
   laying_named e =
       record {
         few = w.few;
         long = w.long;
         within = w.within;
-        counted = λ vs m. rw (unpaired_not vs places q (sym (m q few) ∙ e)) (w.counted vs m);
-        held = λ vs m n p l. rw (sources_not vs places q (sym (m q few) ∙ e)) (w.held vs m n p l);
+        counted = λ vs m. rw (unpaired_not vs places q (sym (m q more) ∙ e)) (w.counted vs m);
+        held = λ vs m n p l. rw (sources_not vs places q (sym (m q more) ∙ e)) (w.held vs m n p l);
       }
 
   module _ (e : get_or named q false ≡ false) where
     counted_more : (vs : List (ℕ × ℕ)) → Marks vs named → count + 1 ≡ places + length (unpaired vs (q + 1))
-    counted_more vs m = rw (unpaired_more vs places q (sym (m q few) ∙ e)) (omega (arith, w.counted vs m, length-append (unpaired vs q) (q ∷ [])))
+    counted_more vs m = rw (unpaired_more vs places q (sym (m q more) ∙ e)) (omega (arith, w.counted vs m, length-append (unpaired vs q) (q ∷ [])))
 
     -- no slot is left for it
-    pub laying_full : count ≡ 16 → (others : ℕ) → q < others → LaidOut source places named others None
-    laying_full full others h =
+    pub laying_full : count ≡ 16 → LaidOut source places named None
+    laying_full full =
         record {
           laid = λ vs m n.
-              let more : q + 1 + (others - (q + 1)) ≡ others = omega arith in
-              let grown : length (unpaired vs (q + 1)) ≤ length (unpaired vs others) = rw more at (unpaired_grows vs (q + 1) (others - (q + 1))) in
+              let others = length named in
+              let rest : q + 1 + (others - (q + 1)) ≡ others = omega (arith, more) in
+              let grown : length (unpaired vs (q + 1)) ≤ length (unpaired vs others) = rw rest at (unpaired_grows vs (q + 1) (others - (q + 1))) in
               omega (arith, counted_more vs m);
         }
 
@@ -160,9 +161,9 @@ module _ {source : List (Option ℕ)} {places : ℕ} {named : List Bool} {laid :
         record {
           few = omega (arith, room);
           long = length-set laid count (Some q) ∙ w.long;
-          within = within_set laid count q (omega (arith, w.long)) w.within few;
+          within = within_set laid count q (omega (arith, w.long)) w.within (omega (arith, few, more));
           counted = counted_more;
-          held = λ vs m n p l. rw (sources_more vs places q (sym (m q few) ∙ e)) (go vs m n p l (eqb p count) refl);
+          held = λ vs m n p l. rw (sources_more vs places q (sym (m q more) ∙ e)) (go vs m n p l (eqb p count) refl);
         }
       where
         go : (vs : List (ℕ × ℕ)) → Marks vs named → Partnered vs source → (p : ℕ) → p < count + 1 → (t : Bool) → eqb p count ≡ t
@@ -180,8 +181,8 @@ module _ {source : List (Option ℕ)} {places : ℕ} {named : List Bool} {laid :
             ∙ sym (get_or-append (sources vs places q) (some q ∷ []) none p (omega (arith, w.counted vs m, length_sources vs places q)))
 
 module _ {source : List (Option ℕ)} {places : ℕ} {named : List Bool} {laid : List (Option ℕ)} {count q : ℕ} (w : Laying source places named laid count q) where
-  pub laying_done : (others : ℕ) → q ≡ others → LaidOut source places named others (Some (take count laid))
-  laying_done others all =
+  pub laying_done : q ≡ length named → LaidOut source places named (Some (take count laid))
+  laying_done all = let others = length named in
       record {
         laid = λ vs m n. (
           omega (arith, length-take-le count laid (omega (arith, w.few, w.long)), w.few),

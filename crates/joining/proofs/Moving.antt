@@ -9,12 +9,12 @@ use mathlib.Core.Option.{none}
 use mathlib.Core.Logic.{⊎_elim}
 use Rattle.std.specs.Prelude.{Option, Some, None}
 use Rattle.laws.specs.Sums.{le_or_lt}
-use Rattle.std.proofs.lemmas.List.{get_or-take, length-take-le}
-use lib.ListN.{length, get_or, set, take, drop, replicate, length-map, length-replicate, length-append, length-drop, length-set, get_or-map, get_or-append, get_or-eq_default}
+use Rattle.std.proofs.lemmas.List.{drop-map, drop-append-le, append_assoc}
+use lib.ListN.{length, get_or, set, drop, replicate, length-map, length-replicate, length-append, length-drop, length-set, get_or-map, get_or-eq_default}
 use lib.ListN.{drop_of_length-le}
-use lib.Seq.{ext_get_or, get_or-set_same, get_or-set_other, drop-cons, get_or-append-add, get_or-drop}
+use lib.Seq.{ext_get_or, get_or-set_same, get_or-set_other, drop-cons}
 use Rattle.laws.specs.Arrays.{filled}
-use Rattle.laws.specs.Slots.{first_of, pad_to, length_first, get_d_first, get_d_padded, length_pad}
+use Rattle.laws.specs.Slots.{pad_to, get_d_padded, length_pad}
 use Rattle.net.proofs.Rows.{sixteen_at}
 use Rattle.net_card.specs.Code.{spread}
 use Rattle.joining.specs.Joining.{weight_at}
@@ -70,77 +70,31 @@ pub weight_there : (from : List ℕ) (first step : ℕ) {place : Option ℕ} {q 
     → get_or from (first + step * q) 0 ≡ weight_at (weights_in from first step) (place_in place)
 weight_there from first step {q = q} e h = rw e (sym (sixteen_at (λ k. get_or from (first + step * k) 0) q h))
 
--- ---- the tokens at the start: those of the first net at its places, and behind them the second's
-module _ (start : List ℕ) (places : ℕ) (other : List ℕ) (at : List (Option ℕ)) where
-  abbrev listed : List ℕ
-  listed = first_of places 0 start ++ map (weight_at other) (drop places (places_in at))
-
-  length_listed : places ≤ length at → length listed ≡ length at
-  length_listed front =
-      let all = places_in at in
-      omega (
-        arith,
-        length-append (first_of places 0 start) (map (weight_at other) (drop places all)),
-        length_first places 0 start,
-        length-map (drop places all) (weight_at other),
-        length-drop places all,
-        length_places at,
-      )
-
-  listed_first : (p : ℕ) → p < places → get_or listed p 0 ≡ get_or start p 0
-  listed_first p l =
-      get_or-append (first_of places 0 start) (map (weight_at other) (drop places (places_in at))) 0 p (omega (arith, length_first places 0 start))
-      ∙ get_d_first places 0 start p l
-
-  listed_second : (p : ℕ) → places ≤ p → get_or listed p 0 ≡ weight_at other (place_in (get_or at p None))
-  listed_second p l =
-      let all = places_in at in
-      let behind : p ≡ length (first_of places 0 start) + (p - places) = omega (arith, length_first places 0 start) in
-      let there : places + (p - places) ≡ p = omega arith in
-      ap (λ (k : ℕ). get_or listed k 0) behind
-      ∙ get_or-append-add (first_of places 0 start) (map (weight_at other) (drop places all)) (p - places) 0
-      ∙ get_or-map (weight_at other) (drop places all) (p - places) none
-      ∙ ap (weight_at other) (get_or-drop places all (p - places) none ∙ ap (λ (k : ℕ). get_or all k none) there ∙ place_at at p)
-
-  -- the places before p hold their tokens, and those from p on none
+-- ---- the tokens at the start
+module _ (other : List ℕ) (at : List (Option ℕ)) where
+  -- the places before p hold theirs, and those from p on none
   pub record Starting (tokens : List ℕ) (p : ℕ) : Type 0 where
-    pub behind : places ≤ p
     pub long : length tokens ≡ 16
-    pub so_far : (k : ℕ) → k < p → get_or tokens k 0 ≡ get_or listed k 0
+    pub so_far : (k : ℕ) → k < p → get_or tokens k 0 ≡ get_or (moved_to other at) k 0
     pub ahead : (k : ℕ) → p ≤ k → get_or tokens k 0 ≡ 0
 
-  pub starting_first : (tokens : List ℕ) → length tokens ≡ 16 → ((k : ℕ) → k < places → get_or tokens k 0 ≡ get_or start k 0)
-      → ((k : ℕ) → places ≤ k → get_or tokens k 0 ≡ 0) → Starting tokens places
-  starting_first tokens long first past =
-      record { behind = omega arith; long = long; so_far = λ k l. first k l ∙ sym (listed_first k l); ahead = past }
-
-  -- the first net's tokens copied to the front of an empty array
-  pub starting_copied : (front : List ℕ) → front ≡ take places start → length start ≡ 16 → places ≤ 16
-      → Starting (front ++ drop places (replicate 16 0)) places
-  starting_copied front is long few =
-      let empty : List ℕ = replicate 16 0 in
-      let size : length front ≡ places = ap length is ∙ length-take-le places start (omega arith) in
-      starting_first (front ++ drop places empty)
-      (omega (arith, length-append front (drop places empty), length-drop places empty, length-replicate {A = ℕ} 16 0))
-      (λ k l. get_or-append front (drop places empty) 0 k (omega arith) ∙ rw is (get_or-take places start k 0 l))
-      (λ k l.
-      let behind : k ≡ length front + (k - places) = omega arith in
-      ap (λ (i : ℕ). get_or (front ++ drop places empty) i 0) behind
-      ∙ get_or-append-add front (drop places empty) (k - places) 0
-      ∙ get_or-drop places empty (k - places) 0
-      ∙ get_d_padded {A = ℕ} [] 16 0 (places + (k - places)))
+  pub starting : Starting (replicate 16 0) 0
+  starting =
+      record {
+        long = length-replicate {A = ℕ} 16 0;
+        so_far = λ k l. absurd (omega (arith, l));
+        ahead = λ k l. get_d_padded {A = ℕ} [] 16 0 k;
+      }
 
   module _ {tokens : List ℕ} {p : ℕ} (w : Starting tokens p) where
     -- a place that has a place of the second net, and one that has none
     pub starting_more : {q : ℕ} → get_or at p None ≡ Some q → p < 16 → Starting (set tokens p (get_or other q 0)) (p + 1)
     starting_more {q} e l =
         record {
-          behind = omega (arith, w.behind);
           long = length-set tokens p (get_or other q 0) ∙ w.long;
           so_far = λ k b.
               ⊎_elim
-              (λ (h : k ≡ p).
-              rw h (get_or-set_same tokens p (get_or other q 0) 0 (omega (arith, w.long)) ∙ sym (listed_second p w.behind ∙ rw e refl)))
+              (λ (h : k ≡ p). rw h (get_or-set_same tokens p (get_or other q 0) 0 (omega (arith, w.long)) ∙ sym (moved_at other at p ∙ rw e refl)))
               (λ (h : k < p). get_or-set_other tokens p k (get_or other q 0) 0 (λ z. omega arith) ∙ w.so_far k h)
               (eq-or-lt_of_le (le_of_suc-le-suc (rw add-one at b)));
           ahead = λ k b. get_or-set_other tokens p k (get_or other q 0) 0 (λ z. omega arith) ∙ w.ahead k (omega arith);
@@ -149,23 +103,37 @@ module _ (start : List ℕ) (places : ℕ) (other : List ℕ) (at : List (Option
     pub starting_none : get_or at p None ≡ None → Starting tokens (p + 1)
     starting_none e =
         record {
-          behind = omega (arith, w.behind);
           long = w.long;
           so_far = λ k b.
               ⊎_elim
-              (λ (h : k ≡ p). rw h (w.ahead p (le_refl p) ∙ sym (listed_second p w.behind ∙ rw e refl)))
+              (λ (h : k ≡ p). rw h (w.ahead p (le_refl p) ∙ sym (moved_at other at p ∙ rw e refl)))
               (λ (h : k < p). w.so_far k h)
               (eq-or-lt_of_le (le_of_suc-le-suc (rw add-one at b)));
           ahead = λ k b. w.ahead k (omega arith);
         }
 
-    pub starting_done : length at ≤ 16 → p ≡ length at → tokens ≡ pad_to 16 0 listed
+    starting_done : length at ≤ 16 → length at ≤ p → tokens ≡ pad_to 16 0 (moved_to other at)
     starting_done few all =
-        let same : length listed ≡ length at = length_listed (omega (arith, w.behind)) in
-        ext_get_or 0 tokens (pad_to 16 0 listed) (w.long ∙ sym (length_pad 16 0 listed (omega (arith, same))))
+        ext_get_or 0 tokens (pad_to 16 0 (moved_to other at)) (w.long ∙ sym (length_pad 16 0 (moved_to other at) (omega (arith, length_moved other at))))
         (λ k b.
         ⊎_elim
-        (λ (h : p ≤ k). w.ahead k h ∙ sym (get_or-eq_default listed 0 {n = k} (omega (arith, same))))
+        (λ (h : p ≤ k). w.ahead k h ∙ sym (get_or-eq_default (moved_to other at) 0 {n = k} (omega (arith, length_moved other at))))
         (λ (h : k < p). w.so_far k h)
         (le_or_lt p k)
-        ∙ sym (get_d_padded listed (16 - length listed) 0 k))
+        ∙ sym (get_d_padded (moved_to other at) (16 - length (moved_to other at)) 0 k))
+
+    -- and the first net's over them
+    pub first_over : (start : List ℕ) → length start ≤ length at → length at ≤ 16 → length at ≤ p
+        → start ++ drop (length start) tokens ≡ pad_to 16 0 (start ++ map (weight_at other) (drop (length start) (places_in at)))
+    first_over start front few all =
+        let places = length start in
+        let behind = map (weight_at other) (drop places (places_in at)) in
+        let moved = moved_to other at in
+        let cut : drop places moved ≡ behind = drop-map (weight_at other) places (places_in at) in
+        let same : length (start ++ behind) ≡ length moved =
+        omega (arith, length-append start behind, ap length cut, length-drop places moved, length_moved other at) in
+        let rest : drop places tokens ≡ behind ++ replicate (16 - length (start ++ behind)) 0 =
+        ap (drop places) (starting_done few all)
+        ∙ drop-append-le places moved (replicate (16 - length moved) 0) (omega (arith, length_moved other at))
+        ∙ rw (cut, same) refl in
+        rw rest (sym (append_assoc start behind (replicate (16 - length (start ++ behind)) 0)))

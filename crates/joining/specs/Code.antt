@@ -39,9 +39,10 @@ abbrev pub Partnered : List (ℕ × ℕ) → List (Option ℕ) → Type 0
 Partnered vs source = (p : ℕ) → p < 16 → place_in (get_or source p None) ≡ partner vs p
 
 -- the second net's places that no pair names laid out behind those of the first, whatever the pairs are by which they were named; or they are too many
-pub record LaidOut (source : List (Option ℕ)) (places : ℕ) (named : List Bool) (others : ℕ) (r : Option (List (Option ℕ))) : Type 0 where
-  pub laid : (vs : List (ℕ × ℕ)) → ((q : ℕ) → q < 16 → get_or named q false ≡ among q (seconds vs)) → Partnered vs source
-      → MatchOption r (16 < places + length (unpaired vs others)) (λ at. (length at ≤ 16) × (places_in at ≡ sources vs places others))
+pub record LaidOut (source : List (Option ℕ)) (places : ℕ) (named : List Bool) (r : Option (List (Option ℕ))) : Type 0 where
+  pub laid : (vs : List (ℕ × ℕ)) → ((q : ℕ) → q < length named → get_or named q false ≡ among q (seconds vs)) → Partnered vs source
+      → let others = length named in
+      MatchOption r (16 < places + length (unpaired vs others)) (λ at. (length at ≤ 16) × (places_in at ≡ sources vs places others))
 
 -- the arrays of rows
 pub record Holds (rs : List Row) (r : Rows) : Type 0 where

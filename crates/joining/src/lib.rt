@@ -17,12 +17,13 @@ ghost use Rattle.joining.specs.Joining.{net_and_pairs, join_of, join_values, joi
 ghost use Rattle.joining.specs.Layout.{Within};
 ghost use Rattle.joining.specs.Code.{pairs_in, numbers_on, Seen, Named, Partnered, places_in, LaidOut, Added, JoinedBy, kept, pairs_read};
 
-use net::{Net, Transition};
+use net::{NO_TRANSITION, Net, Transition};
 use reply::Refusal;
 use std::array;
 use std::marker::Model;
 
-// The place of one of two nets that stands at each place of the joined net, if any does.
+// The place of one of two nets that stands at each place of the joined net, if any does. Of the three arrays with a count (`Pairs` and the engine's `Queue` are
+// the others) each has an invariant of its own, so that they are no one type.
 #[derive(Drop)]
 struct Layout {
     places: usize,
@@ -49,20 +50,14 @@ struct Rows {
     table: [Transition; 32],
 }
 
-// A list that was read: how many numbers it has, and the first 32 of them.
+// A list that was read: how many numbers it has, and the first 32 of them; there is no heap for more, and no two nets have more.
 #[derive(Clone, Copy)]
 struct Pairs {
     count: usize,
     list: [u32; 32],
 }
 
-// What stands for a transition that is none.
-const NO_TRANSITION: Transition = Transition {
-    earliest: 0,
-    latest: None,
-};
-
-// The places that pairs name on one side, if each is a place and none is named twice; from the last pair to the first.
+// The places that pairs name on one side, which is an index into a pair, if each is a place and none is named twice; from the last pair to the first.
 fn look_at(pairs: &[[u32; 2]], side: usize, places: usize) -> Option<[bool; 16]>
     requires two { side < 2 }
     requires few { places ≤ 16 }
@@ -103,19 +98,14 @@ fn partners(pairs: &[[u32; 2]]) -> [Option<usize>; 16]
 }
 
 // The places of the joined net: the first's, then the second's that no pair names. There is none where they are above 16.
-fn lay_out(
-    partners: [Option<usize>; 16],
-    places: usize,
-    named: &[bool; 16],
-    others: usize,
-) -> Option<Layout>
-    requires few { (places ≤ 16) × (others ≤ 16) }
+fn lay_out(partners: [Option<usize>; 16], places: usize, named: &[bool]) -> Option<Layout>
+    requires few { (places ≤ 16) × (length named.now ≤ 16) }
     requires within { Within partners }
-    ensures { LaidOut partners places named.now others result }
+    ensures { LaidOut partners places named.now result }
 {
     let mut source = partners;
     let mut count = places;
-    for (q, named) in named[..others].iter().enumerate() {
+    for (q, named) in named.iter().enumerate() {
         if !*named {
             if count == 16 {
                 return None;
@@ -183,6 +173,7 @@ impl Rows {
         ensures { Added net.now at.now behind self.old self.new }
     {
         let sources = at.sources();
+        // The number stands in three arrays; of a net that is lent it is not told how long its table is.
         for t in 0..net.transitions {
             move_weights(&net.take, t, &mut self.take, behind + t, 32, sources);
             move_weights(
@@ -198,19 +189,18 @@ impl Rows {
     }
 }
 
-// The tokens at the start: the first net's, then those of the second net's places that no pair names.
-fn joined_start(start: &[u8; 16], places: usize, other: &[u8; 16], at: &Layout) -> [u8; 16]
-    requires { places ≤ length at.now }
-    ensures { result ≡ pad_to 16 0 (first_of places 0 start.now ++ map (weight_at other.now) (drop places (places_in at.now))) }
+// The tokens at the start: those of the second net at its places, and over them the first net's, which a pair leaves as they are.
+fn joined_start(start: &[u8], other: &[u8; 16], at: &Layout) -> [u8; 16]
+    requires { length start.now ≤ length at.now }
+    ensures { result ≡ pad_to 16 0 (start.now ++ map (weight_at other.now) (drop (length start.now) (places_in at.now))) }
 {
-    let sources = at.sources();
     let mut joined = [0u8; 16];
-    joined[..places].copy_from_slice(&start[..places]);
-    for p in places..sources.len() {
-        if let Some(q) = sources[p] {
-            joined[p] = other[q];
+    for (p, source) in at.sources().iter().enumerate() {
+        if let Some(q) = source {
+            joined[p] = other[*q];
         }
     }
+    joined[..start.len()].copy_from_slice(start);
     joined
 }
 
@@ -232,14 +222,14 @@ fn joined(a: &Net, b: &Net, at: &Layout) -> Net
         sheet: a.sheet,
         places,
         transitions: a.transitions + b.transitions,
-        start: joined_start(&a.start, a.places, &b.start, at),
+        start: joined_start(&a.start[..a.places], &b.start, at),
         take: rows.take,
         give: rows.give,
         table: rows.table,
     }
 }
 
-// Joins two nets that passed their checks.
+// Joins two nets that passed their checks, as the two functions for cards below require too: a struct of both nets would be made in each of them.
 fn join_nets(a: &Net, b: &Net, list: &[u32], out: &mut [u8]) -> Result<usize, Refusal>
     requires first { net_card.check a.now 1 ≡ Passed }
     requires second { net_card.check b.now 1 ≡ Passed }
@@ -255,7 +245,7 @@ fn join_nets(a: &Net, b: &Net, list: &[u32], out: &mut [u8]) -> Result<usize, Re
     if !equal_starts(&a.start, &b.start, pairs) {
         return Err(Refusal::UnequalStarts);
     }
-    let Some(at) = lay_out(partners(pairs), a.places, &named, b.places) else {
+    let Some(at) = lay_out(partners(pairs), a.places, &named[..b.places]) else {
         return Err(Refusal::TooLarge);
     };
     if a.transitions + b.transitions > 32 {
@@ -303,6 +293,7 @@ fn numbers_at(s: &[u8], at: usize) -> Result<(Pairs, usize), Refusal>
 {
     let mut pairs = Pairs::none();
     let mut to = at;
+    // The next position is the one behind the number that was read.
     while to < s.len() {
         if let Some((last, next)) = text::field_at(s, to, true) {
             pairs.push(last);
@@ -360,7 +351,7 @@ fn join_behind(a: Net, s: &[u8], out: &mut [u8]) -> Result<usize, Refusal>
     join_by(a, b, net_card::remainder(s, next), out)
 }
 
-// Joins two nets: a net card, right behind it the other's, and behind that the line `pairs`.
+// Joins two nets: a net card, right behind it the other's, and behind that the line `pairs`. `open_cards::open_cards` has two lines of this shape.
 pub fn join_cards(input: &[u8], out: &mut [u8]) -> Result<usize, Refusal>
     ensures { Responded (join_cards input.now) out.old result out.new }
 {

@@ -1,5 +1,5 @@
-// The record of an open run lent by its caller: a wait, a firing and the closing, each the by-value core on what the record holds. A refused step leaves it bit
-// for bit.
+// The record of an open run lent by its caller: a wait, a firing and the closing, each the by-value core on what the record holds, so that only few thin
+// functions borrow. A refused step leaves it bit for bit.
 #![tactic(auto)]
 
 ghost use Rattle.std.specs.Prelude.{◌≡◌};

@@ -7,16 +7,21 @@ use open_run::OpenRun;
 use reply::Refusal;
 use std::io::{Read, Write};
 
-// The run that is being entered: its record, the number of the next line, and the part of the buffer that is not answered.
-#[derive(Clone, Copy)]
-struct LiveRun {
+// A run that is entered live: what is read and where the answers go, the buffer of what has come, the run's record, the number of the next line, and the part
+// of the buffer that is not answered.
+#[derive(Drop)]
+struct LiveRun<'a, R, W> {
+    input: &'a mut R,
+    to: &'a mut W,
+    buffer: &'a mut [u8],
     run: OpenRun,
     number: usize,
     at: usize,
     end: usize,
 }
 
-// The part of a text between two positions; an empty one where they do not stand in the text, the first before the second.
+// The part of a text between two positions; an empty one where they do not stand in the text, the first before the second. The program `cases` has the same
+// line.
 fn part(s: &[u8], from: usize, to: usize) -> &[u8] {
     s.get(from..to).unwrap_or(&[])
 }
@@ -62,6 +67,7 @@ fn is_settled(s: &[u8]) -> bool {
 // Reads the input until that is settled, until it ends or until the buffer is full; how many bytes have come.
 fn read_opening<R: Read>(input: &mut R, buffer: &mut [u8]) -> usize {
     let mut n: usize = 0;
+    // The next position is the one behind what came.
     while n < buffer.len() {
         let more = read_some(input, &mut *buffer, n);
         if more == 0 {
@@ -85,21 +91,16 @@ fn opening(s: &[u8]) -> Result<(OpenRun, usize), Refusal> {
     Ok((e.run, s.len() - left.len()))
 }
 
-// Opens the run of a text, and says so or why not; the lines from number 4 on follow, where the answer is read.
-fn open<W: Write>(to: &mut W, s: &[u8]) -> Option<LiveRun> {
+// Opens the run of a text, and says so or why not; nothing goes on where the answer is not read.
+fn open<W: Write>(to: &mut W, s: &[u8]) -> Option<(OpenRun, usize)> {
     match opening(s) {
         Err(e) => {
             let _ = console::print_refusal(to, e);
             None
         }
-        Ok((run, at)) => {
+        Ok(opened) => {
             to.write_all(b"ok\n").ok()?;
-            Some(LiveRun {
-                run,
-                number: 4,
-                at,
-                end: s.len(),
-            })
+            Some(opened)
         }
     }
 }
@@ -108,25 +109,8 @@ fn open<W: Write>(to: &mut W, s: &[u8]) -> Option<LiveRun> {
 
 // The position behind the line at a position, if the line has ended.
 fn line_end(s: &[u8], at: usize) -> Option<usize> {
-    for i in at..s.len() {
-        if s[i] == b'\n' {
-            return Some(i + 1);
-        }
-    }
-    None
-}
-
-// Answers a line, behind which stands the position; nothing goes on where the answer is not read.
-fn answer<W: Write>(to: &mut W, c: LiveRun, line: &[u8], next: usize) -> Option<LiveRun> {
-    let mut out = [0u8; 2048];
-    let a = session::answer_line(c.run, c.number, line, &mut out);
-    to.write_all(part(&out, 0, a.length)).ok()?;
-    Some(LiveRun {
-        run: a.run,
-        number: c.number.saturating_add(1),
-        at: next,
-        end: c.end,
-    })
+    let bytes = s.get(at..)?.iter().position(|b| *b == b'\n')?;
+    Some(at + bytes + 1)
 }
 
 // Moves the part of a buffer between two positions to its front; how many bytes.
@@ -146,57 +130,67 @@ fn print_unended<W: Write>(to: &mut W, number: usize, bytes: usize) {
     }
 }
 
-// Reads on, behind the part that is not answered, which is moved to the front; nothing goes on where the input has ended, or the line fills the buffer.
-fn read_on<R: Read, W: Write>(
-    input: &mut R,
-    to: &mut W,
-    c: LiveRun,
-    buffer: &mut [u8],
-) -> Option<LiveRun> {
-    let left = move_to_front(&mut *buffer, c.at, c.end);
-    let more = read_some(input, buffer, left);
-    if more == 0 {
-        print_unended(to, c.number, left);
-        return None;
+impl<'a, R: Read, W: Write> LiveRun<'a, R, W> {
+    // Answers the line that ends before a position; nothing goes on where the answer is not read.
+    fn answer(&mut self, next: usize) -> Option<()> {
+        let mut out = [0u8; 2048];
+        let at = self.at;
+        let a = session::answer_line(self.run, self.number, part(self.buffer, at, next), &mut out);
+        self.to.write_all(part(&out, 0, a.length)).ok()?;
+        self.run = a.run;
+        self.number = self.number.saturating_add(1);
+        self.at = next;
+        Some(())
     }
-    Some(LiveRun {
-        run: c.run,
-        number: c.number,
-        at: 0,
-        end: left + more,
-    })
+
+    // Reads on, behind the part that is not answered, which is moved to the front; nothing goes on where the input has ended, or the line fills the buffer.
+    fn read_on(&mut self) -> Option<()> {
+        let left = move_to_front(self.buffer, self.at, self.end);
+        let more = read_some(self.input, self.buffer, left);
+        if more == 0 {
+            print_unended(self.to, self.number, left);
+            return None;
+        }
+        self.at = 0;
+        self.end = left + more;
+        Some(())
+    }
+
+    // Answers the next line where it has ended, and reads on where it has not.
+    fn turn(&mut self) -> Option<()> {
+        let (at, end) = (self.at, self.end);
+        match line_end(part(self.buffer, 0, end), at) {
+            Some(next) => self.answer(next),
+            None => self.read_on(),
+        }
+    }
+
+    // Answers each line as it comes. A loop has to end: this one does so after more turns than there is time for.
+    fn serve(&mut self) {
+        for _ in 0..4000000000000000000u64 {
+            if self.turn().is_none() {
+                return;
+            }
+        }
+    }
 }
 
-// Answers the next line where it has ended, and reads on where it has not.
-fn turn<R: Read, W: Write>(
-    input: &mut R,
-    to: &mut W,
-    c: LiveRun,
-    buffer: &mut [u8],
-) -> Option<LiveRun> {
-    match line_end(part(buffer, 0, c.end), c.at) {
-        Some(next) => answer(to, c, part(buffer, c.at, next), next),
-        None => read_on(input, to, c, buffer),
-    }
-}
-
-// Answers each line as it comes. A loop has to end: this one does so after more turns than there is time for.
-fn serve<R: Read, W: Write>(input: &mut R, to: &mut W, opened: LiveRun, buffer: &mut [u8]) {
-    let mut c = opened;
-    for _ in 0..4000000000000000000u64 {
-        let Some(next) = turn(input, to, c, &mut *buffer) else {
-            return;
-        };
-        c = next;
-    }
-}
-
-// Opens a run and answers the lines behind, in a buffer.
+// Opens a run and answers the lines behind, which are counted from 4, in a buffer.
 fn live<R: Read, W: Write>(input: &mut R, to: &mut W, buffer: &mut [u8]) {
     let n = read_opening(input, &mut *buffer);
-    if let Some(opened) = open(to, part(buffer, 0, n)) {
-        serve(input, to, opened, buffer);
-    }
+    let Some((run, at)) = open(to, part(buffer, 0, n)) else {
+        return;
+    };
+    let mut live_run = LiveRun {
+        input,
+        to,
+        buffer,
+        run,
+        number: 4,
+        at,
+        end: n,
+    };
+    live_run.serve();
 }
 
 fn main(rt: HostRuntime) {

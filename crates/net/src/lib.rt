@@ -8,8 +8,15 @@ pub struct Transition {
     pub latest: Option<u32>,
 }
 
+// What stands for a transition that is none: no clock is outside its interval.
+pub const NO_TRANSITION: Transition = Transition {
+    earliest: 0,
+    latest: None,
+};
+
 // A net, by the sheet that it is drawn on. What is taken stands by places, 32 transitions a place, so that a firing finds those that a place is short of
-// side by side; what is given stands by transitions, 16 places a transition. Slots past the counts are no part of it.
+// side by side; what is given stands by transitions, 16 places a transition. Slots past the counts are no part of it: there is no heap, and values whose
+// counts pass the arrays are refused like a card.
 #[derive(Clone, Copy)]
 pub struct Net {
     pub sheet: u32,

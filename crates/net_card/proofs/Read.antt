@@ -24,8 +24,8 @@ use Rattle.form.proofs.Loops.{Reading, reading_start, reading_more, reading_refu
 use Rattle.net.specs.declared.Transition.{Transition}
 use Rattle.net.specs.declared.Net.{Net}
 use Rattle.net.specs.Net.{latest, weights, Row, to_row, row, no_row, no_transition, starts, rows, body, counted_lines, take_of, give_of, to_net, net_card}
-use Rattle.net_card.specs.declared.Heading.{Heading}
-use Rattle.net_card.specs.Code.{interval, interval_lines, to_interval, found_in, spread, stored_in, stored_as, behind_sheet, behind_counts, started}
+use Rattle.net_card.specs.declared.counts.Heading.{Heading}
+use Rattle.net_card.specs.Code.{interval, interval_lines, to_interval, found_in, spread, stored_at, stored_as, behind_sheet, with_counts, behind_counts, started}
 use Rattle.net_card.proofs.Tables.{take_empty, give_empty, take_stored, give_stored}
 
 -- ---- what an answer beside lent arrays tells
@@ -55,7 +55,7 @@ pair_in {A} {B} r a b e = go r ∙ ap (λ (f : Found B). and_then f (λ y end. f
     go (Err q) = refl
 
 module _ (places t : ℕ) (s : List ℕ) (at line : ℕ) (take give : List ℕ) (r : Result ℕ Refusal) (take' : List ℕ)
-    (p : found_in r take' ≡ stored_in (record { count = places; first = t; step = 32 }) take ((list_of (bytes "take=") places).read s at line)) where
+    (p : found_in r take' ≡ stored_at places t 32 take ((list_of (bytes "take=") places).read s at line)) where
   -- the answer for both lists
   abbrev both : Found (List ℕ × List ℕ)
   both = stored_as places t take give ((weights places).read s at line)
@@ -69,7 +69,7 @@ module _ (places t : ℕ) (s : List ℕ) (at line : ℕ) (take give : List ℕ) 
       then_refused ((list_of (bytes "take=") places).read s at line) _ (λ z. sym (rw z refl)) (λ v end z z'. absurd (not_both (sym z'))) (in_stopped r take' p e)
 
   pub take_next : {next : ℕ} → r ≡ Ok next → (q : Result ℕ Refusal) (give' : List ℕ)
-      → found_in q give' ≡ stored_in (record { count = places; first = 16 * t; step = 1 }) give (gives next)
+      → found_in q give' ≡ stored_at places (16 * t) 1 give (gives next)
       → found_in q (take', give') ≡ both
   take_next {next} e q give' z =
       let u = then_found ((list_of (bytes "take=") places).read s at line) _ (in_next r take' p e) in
@@ -279,7 +279,7 @@ module _ (head : Heading) (s : List ℕ) (at : ℕ) where
 -- ---- the lines behind the sheet
 -- the values of the lines put together, at once or one after the other
 counted_together : (h p t : ℕ) (f : Found (List ℕ × List Row))
-    → behind_counts (record { sheet = h; places = p; transitions = t }) f ≡ behind_sheet h (and_then (and_then f (λ b end. found (t, b) end)) (λ b end. found (p, b) end))
+    → with_counts h p t f ≡ behind_sheet h (and_then (and_then f (λ b end. found (t, b) end)) (λ b end. found (p, b) end))
 counted_together h p t (found w next) = refl
 counted_together h p t (refused r) = refl
 
@@ -304,7 +304,7 @@ module _ (sheet : ℕ) (s : List ℕ) (at : ℕ) where
     transitions_stopped e' = rw (e, e')
 
     module _ {t to : ℕ} (e' : transitions_line ≡ found t to) where
-      pub counts_read : behind_counts (record { sheet = sheet; places = p; transitions = t }) ((body p t).read s to 4) ≡ counted
+      pub counts_read : with_counts sheet p t ((body p t).read s to 4) ≡ counted
       counts_read = rw (e, e') (counted_together sheet p t ((body p t).read s to 4))
 
       pub counts_small : (1 ≤ p) × (p ≤ 16) × (t ≤ 32)

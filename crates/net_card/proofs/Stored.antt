@@ -22,7 +22,7 @@ use Rattle.std.specs.Option.{ok_or}
 use Rattle.reply.specs.declared.Refusal.{Refusal}
 use Rattle.form.proofs.Found.{then_then, then_same}
 use Rattle.form.proofs.Lines.{items_there}
-use Rattle.net_card.specs.declared.Slots.{Slots}
+use Rattle.net_card.specs.declared.counts.Slots.{Slots}
 use Rattle.net_card.specs.Code.{spread, stored_in}
 
 -- ---- numbers in their slots
@@ -83,11 +83,11 @@ pub record Storing (to : Slots) (s : List ℕ) (at line : ℕ) (old : List ℕ) 
   pub rest : stored_in to old ((items to.count 16 0 255).read s at line) ≡ left narrow (to.count - i) s next line (to.first + to.step * i) to.step l
 
 module _ (to : Slots) (s : List ℕ) (at line : ℕ) (old : List ℕ) where
-  pub storing_start : to.count ≤ 16 → Storing to s at line old true old at 0
-  storing_start few =
+  pub storing_start : Storing to s at line old true old at 0
+  storing_start =
       record {
         within = omega arith;
-        rest = let first : to.first + to.step * 0 ≡ to.first = omega arith in rw (min-eq_left few, sub-zero to.count, first) (then_then (items_at to.count s at line) _ _ ∙ then_same (items_at to.count s at line) _ _
+        rest = let first : to.first + to.step * 0 ≡ to.first = omega arith in rw (min-eq_left to.few, sub-zero to.count, first) (then_then (items_at to.count s at line) _ _ ∙ then_same (items_at to.count s at line) _ _
             (λ ns next e'. go ns next (items_there to.count ns s at next line e').count (all_ranged 0 255 ns)));
       }
     where

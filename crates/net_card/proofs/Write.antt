@@ -3,14 +3,16 @@ use Rattle.reply.specs.Respond.{Passed}
 use Prim.Native.Nat.{ℕ, ◌+◌, ◌≤◌, ◌<◌, min}
 use native.Mathlib.Nat.{min-eq_left}
 use native.Mathlib.Omega.{arith}
-use mathlib.Core.Path.{◌≡◌}
+use mathlib.Core.Path.{◌≡◌, ap}
 use mathlib.Core.List.{List, append_assoc}
 use lib.ListN.{length, get_or, take}
 use Rattle.laws.specs.Writing.{joined}
-use Rattle.laws.specs.Slots.{first_of, first_take}
+use Rattle.std.proofs.lemmas.List.{length-take-le, get_or-take}
+use Rattle.laws.specs.Slots.{first_of, first_take, first_same}
 use Rattle.text.specs.declared.Writer.{Writer}
 use Rattle.text.specs.Writer.{Writes}
 use Rattle.text.proofs.Writing.{writes_then}
+use Rattle.form.specs.Form.{texts}
 use Rattle.form.proofs.Loops.{texts_joined}
 use Rattle.net.specs.declared.Net.{Net}
 use Rattle.net.specs.Net.{Row, weights, row, no_row, no_transition, starts, rows, rows_of, row_at, net_card}
@@ -23,6 +25,12 @@ use Rattle.net_card.proofs.Read.{start_line}
 -- the texts of the lines, told by the index that a loop counts
 pub starts_joined : (places : ℕ) (l : List ℕ) → places ≤ 16 → (starts places).text l ≡ joined (λ i. start_line.text (get_or l i 0)) places
 starts_joined places l few = rw (min-eq_left few) (texts_joined start_line places 0 l)
+
+-- those of the tokens that count
+pub starts_first : (places : ℕ) (l : List ℕ) → places ≤ 16 → places ≤ length l → (starts (length (take places l))).text (take places l) ≡ (starts places).text l
+starts_first places l few h =
+    rw (length-take-le places l h, min-eq_left few)
+    (ap (texts start_line) (first_same places 0 (take places l) l (λ i b. get_or-take places l i 0 b)))
 
 pub rows_joined : (places n : ℕ) (l : List Row) → n ≤ 32 → (rows places n).text l ≡ joined (λ i. (row places).text (get_or l i no_row)) n
 rows_joined places n l few = rw (min-eq_left few) (texts_joined (row places) n no_row l)

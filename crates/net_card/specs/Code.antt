@@ -8,8 +8,8 @@ use Rattle.form.specs.Line.{ranged, number}
 use Rattle.net.specs.declared.Transition.{Transition}
 use Rattle.net.specs.declared.Net.{Net}
 use Rattle.net.specs.Net.{latest, Row, to_net}
-use Rattle.net_card.specs.declared.Heading.{Heading}
-use Rattle.net_card.specs.declared.Slots.{Slots}
+use Rattle.net_card.specs.declared.counts.Heading.{Heading}
+use Rattle.net_card.specs.declared.counts.Slots.{Slots}
 
 -- ---- a transition's interval
 -- its two lines
@@ -34,9 +34,13 @@ unfoldable pub spread : List ℕ → ℕ → ℕ → List ℕ → List ℕ
 spread [] slot step l = l
 spread (n ∷ ns) slot step l = spread ns (slot + step) step (set l slot n)
 
--- a list that was found, stored in an array
+-- a list of so many numbers that was found, stored in an array from a slot on
+abbrev pub stored_at : ℕ → ℕ → ℕ → List ℕ → Found (List ℕ) → Found (List ℕ)
+stored_at count slot step l f = and_then f (λ ns next. found (spread (first_of count 0 ns) slot step l) next)
+
+-- stored in slots
 abbrev pub stored_in : Slots → List ℕ → Found (List ℕ) → Found (List ℕ)
-stored_in to l f = and_then f (λ ns next. found (spread (first_of to.count 0 ns) to.first to.step l) next)
+stored_in to l f = stored_at to.count to.first to.step l f
 
 -- the lists of transition t that were found, stored in the two arrays of a net
 abbrev pub stored_as : ℕ → ℕ → List ℕ → List ℕ → Found (List ℕ × List ℕ) → Found (List ℕ × List ℕ)
@@ -49,8 +53,12 @@ abbrev pub behind_sheet : ℕ → Found (ℕ × (ℕ × (List ℕ × List Row)))
 behind_sheet sheet f = and_then f (λ v next. found (to_net (sheet, v)) next)
 
 -- from its counts too and what the lines behind them say
+abbrev pub with_counts : ℕ → ℕ → ℕ → Found (List ℕ × List Row) → Found Net
+with_counts sheet places transitions f = and_then f (λ b next. found (to_net (sheet, (places, (transitions, b)))) next)
+
+-- the counts in a heading
 abbrev pub behind_counts : Heading → Found (List ℕ × List Row) → Found Net
-behind_counts head f = and_then f (λ b next. found (to_net (head.sheet, (head.places, (head.transitions, b)))) next)
+behind_counts head f = with_counts head.sheet head.places head.transitions f
 
 -- and from its tokens and what the lines of its transitions say
 abbrev pub started : Heading → List ℕ → Found (List Row) → Found Net

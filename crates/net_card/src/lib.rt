@@ -1,6 +1,8 @@
 // The net card: read, checked as a value, written.
 #![tactic(auto)]
 
+mod counts;
+
 ghost use Rattle.std.specs.Prelude.{◌≡◌, true, cond, ◌++◌, ◌+◌, ◌*◌, ◌≤◌, ◌<◌, min, length, get_or, set, drop, replicate, leb};
 ghost use Rattle.laws.specs.Arrays.{filled};
 ghost use Rattle.laws.specs.Writing.{Puts};
@@ -8,42 +10,22 @@ ghost use Rattle.reply.specs.Respond.{Responded};
 ghost use Rattle.text.specs.Key.{bytes};
 ghost use Rattle.text.specs.Writer.{Writes};
 ghost use Rattle.form.specs.Form.{keyed};
-ghost use Rattle.form.specs.Line.{items};
+ghost use Rattle.form.specs.Line.{items, items_text};
 ghost use Rattle.net.specs.Net.{latest, latest_checked, latest_text, weights, starts, rows, rows_of, body, counted_lines, net_card, net_text};
 ghost use Rattle.net_card.specs.Code.{interval, found_in, stored_in, stored_as, behind_sheet, behind_counts, started};
 
-use net::{Net, Transition};
+use counts::{Heading, Slots};
+use form::{Judge, Range};
+use net::{NO_TRANSITION, Net, Transition};
 use reply::Refusal;
 use text::Writer;
-
-// The slots of an array for a list of so many numbers: the first, and each next one a step further.
-#[derive(Clone, Copy)]
-struct Slots {
-    count: usize,
-    first: usize,
-    step: usize,
-}
-
-// The values of the first three lines of a net card.
-#[derive(Clone, Copy)]
-struct Heading {
-    sheet: u32,
-    places: usize,
-    transitions: usize,
-}
-
-// What stands for a transition that was not read.
-const NO_TRANSITION: Transition = Transition {
-    earliest: 0,
-    latest: None,
-};
 
 // The upper bound against its range and the lower bound.
 fn check_latest(latest: Option<u32>, earliest: u32, line: usize) -> Result<(), Refusal>
     ensures { result ≡ latest_checked earliest latest line }
 {
     let Some(n) = latest else { return Ok(()) };
-    form::check_range(n as u64, 0, 1000, line)?;
+    Range(0, 1000).check(n as u64, line)?;
     if n < earliest {
         return Err(Refusal::LatestBelowEarliest(line));
     }
@@ -87,7 +69,7 @@ fn interval_lines(s: &[u8], at: usize, line: usize) -> Result<(Transition, usize
     requires { line ≤ 1000 }
     ensures { result ≡ interval.read s.now at line }
 {
-    let (earliest, behind) = form::number_line(s, at, b"earliest=", 0, 1000, line)?;
+    let (earliest, behind) = form::number_line(s, at, b"earliest=", Range(0, 1000), line)?;
     let (latest, next) = latest_line(s, behind, earliest, line + 1)?;
     Ok((Transition { earliest, latest }, next))
 }
@@ -97,10 +79,10 @@ fn store(table: &mut [u8; 512], slot: usize, value: u32) -> bool
     requires { slot < 512 }
     ensures { (result ≡ leb value 255) × (table.new ≡ cond (leb value 255) (set table.old slot value) table.old) }
 {
-    if 255 < value {
+    let Ok(weight) = u8::try_from(value) else {
         return false;
-    }
-    table[slot] = value as u8;
+    };
+    table[slot] = weight;
     true
 }
 
@@ -112,11 +94,11 @@ fn store_items(
     table: &mut [u8; 512],
     to: Slots,
 ) -> Result<usize, Refusal>
-    requires { (to.count ≤ 16) × (to.first + to.step * 15 < 512) }
     ensures { found_in result table.new ≡ stored_in to table.old ((items to.count 16 0 255).read s.now at line) }
 {
     let mut narrow = true;
     let mut next = at;
+    // The slots lie a step apart, so that the index is needed.
     for i in 0..to.count {
         let (value, behind) = text::field_at(s, next, i + 1 == to.count).ok_or(Refusal::Malformed(
             line,
@@ -140,7 +122,6 @@ fn weights_line(
     table: &mut [u8; 512],
     to: Slots,
 ) -> Result<usize, Refusal>
-    requires { (to.count ≤ 16) × (to.first + to.step * 15 < 512) }
     ensures { found_in result table.new ≡
         stored_in to table.old ((keyed key.now (items to.count 16 0 255)).read s.now at line) }
 {
@@ -155,39 +136,30 @@ fn weight_lines(
     s: &[u8],
     at: usize,
     line: usize,
-    places: usize,
+    head: Heading,
     t: usize,
     take: &mut [u8; 512],
     give: &mut [u8; 512],
 ) -> Result<usize, Refusal>
-    requires { (places ≤ 16) × (t < 32) × (line ≤ 1002) }
+    requires { (t < 32) × (line ≤ 1002) }
     ensures { found_in result (take.new, give.new) ≡
-        stored_as places t take.old give.old ((weights places).read s.now at line) }
+        stored_as head.places t take.old give.old ((weights head.places).read s.now at line) }
 {
-    let column = Slots {
-        count: places,
-        first: t,
-        step: 32,
-    };
-    let row = Slots {
-        count: places,
-        first: 16 * t,
-        step: 1,
-    };
-    let next = weights_line(s, at, b"take=", line, take, column)?;
-    weights_line(s, next, b"give=", line + 1, give, row)
+    let taken = Slots::taken(head.places, t);
+    let given = Slots::given(head.places, t);
+    let next = weights_line(s, at, b"take=", line, take, taken)?;
+    weights_line(s, next, b"give=", line + 1, give, given)
 }
 
 // The lines `start`.
-fn start_lines(s: &[u8], at: usize, places: usize) -> Result<([u8; 16], usize), Refusal>
-    requires { places ≤ 16 }
-    ensures { result ≡ (starts places).read s.now at 4 }
+fn start_lines(s: &[u8], at: usize, head: Heading) -> Result<([u8; 16], usize), Refusal>
+    ensures { result ≡ (starts head.places).read s.now at 4 }
 {
     let mut start = [0u8; 16];
     let mut next = at;
-    for i in 0..places {
-        let (tokens, behind) = form::number_line(s, next, b"start=", 0, 255, 4 + i)?;
-        start[i] = tokens as u8;
+    for (i, slot) in start[..head.places].iter_mut().enumerate() {
+        let (tokens, behind) = form::number_line(s, next, b"start=", Range(0, 255), 4 + i)?;
+        *slot = tokens as u8;
         next = behind;
     }
     Ok((start, next))
@@ -195,18 +167,17 @@ fn start_lines(s: &[u8], at: usize, places: usize) -> Result<([u8; 16], usize), 
 
 // The lines of all transitions, behind the tokens of the start.
 fn table_lines(s: &[u8], at: usize, head: Heading, start: [u8; 16]) -> Result<(Net, usize), Refusal>
-    requires { (head.places ≤ 16) × (head.transitions ≤ 32) }
     ensures { result ≡ started head start ((rows head.places head.transitions).read s.now at (4 + head.places)) }
 {
     let mut take = [0u8; 512];
     let mut give = [0u8; 512];
     let mut table = [NO_TRANSITION; 32];
     let mut next = at;
-    for t in 0..head.transitions {
+    for (t, slot) in table[..head.transitions].iter_mut().enumerate() {
         let line = 4 + head.places + 4 * t;
         let (interval, behind) = interval_lines(s, next, line)?;
-        next = weight_lines(s, behind, line + 2, head.places, t, &mut take, &mut give)?;
-        table[t] = interval;
+        next = weight_lines(s, behind, line + 2, head, t, &mut take, &mut give)?;
+        *slot = interval;
     }
     let net = Net {
         sheet: head.sheet,
@@ -222,10 +193,9 @@ fn table_lines(s: &[u8], at: usize, head: Heading, start: [u8; 16]) -> Result<(N
 
 // The lines behind the two counts.
 fn net_lines(s: &[u8], at: usize, head: Heading) -> Result<(Net, usize), Refusal>
-    requires { (head.places ≤ 16) × (head.transitions ≤ 32) }
     ensures { result ≡ behind_counts head ((body head.places head.transitions).read s.now at 4) }
 {
-    let (start, next) = start_lines(s, at, head.places)?;
+    let (start, next) = start_lines(s, at, head)?;
     table_lines(s, next, head, start)
 }
 
@@ -233,8 +203,14 @@ fn net_lines(s: &[u8], at: usize, head: Heading) -> Result<(Net, usize), Refusal
 fn counted_lines(s: &[u8], at: usize, sheet: u32) -> Result<(Net, usize), Refusal>
     ensures { result ≡ behind_sheet sheet (counted_lines.read s.now at 2) }
 {
-    let (places, at_transitions) = form::number_line(s, at, b"places=", 1, 16, 2)?;
-    let (transitions, at_start) = form::number_line(s, at_transitions, b"transitions=", 1, 32, 3)?;
+    let (places, at_transitions) = form::number_line(s, at, b"places=", Range(1, 16), 2)?;
+    let (transitions, at_start) = form::number_line(
+        s,
+        at_transitions,
+        b"transitions=",
+        Range(1, 32),
+        3,
+    )?;
     let head = Heading {
         sheet,
         places: places as usize,
@@ -247,7 +223,7 @@ fn counted_lines(s: &[u8], at: usize, sheet: u32) -> Result<(Net, usize), Refusa
 pub fn read_net(s: &[u8]) -> Result<(Net, usize), Refusal>
     ensures { result ≡ net_card.read s.now 0 1 }
 {
-    let (sheet, next) = form::number_line(s, 0, b"sheet=", 0, 9999, 1)?;
+    let (sheet, next) = form::number_line(s, 0, b"sheet=", Range(0, 9999), 1)?;
     counted_lines(s, next, sheet)
 }
 
@@ -264,7 +240,7 @@ fn check_interval(t: Transition, line: usize) -> Result<(), Refusal>
     requires { line ≤ 1000 }
     ensures { result ≡ interval.check t line }
 {
-    form::check_range(t.earliest as u64, 0, 1000, line)?;
+    Range(0, 1000).check(t.earliest as u64, line)?;
     check_latest(t.latest, t.earliest, line + 1)
 }
 
@@ -272,11 +248,11 @@ fn check_interval(t: Transition, line: usize) -> Result<(), Refusal>
 pub fn check_net(net: Net) -> Result<(), Refusal>
     ensures { result ≡ net_card.check net 1 }
 {
-    form::check_range(net.sheet as u64, 0, 9999, 1)?;
-    form::check_range(net.places as u64, 1, 16, 2)?;
-    form::check_range(net.transitions as u64, 1, 32, 3)?;
-    for t in 0..net.transitions {
-        check_interval(net.table[t], 4 + net.places + 4 * t)?;
+    Range(0, 9999).check(net.sheet as u64, 1)?;
+    Range(1, 16).check(net.places as u64, 2)?;
+    Range(1, 32).check(net.transitions as u64, 3)?;
+    for (t, interval) in net.table[..net.transitions].iter().enumerate() {
+        check_interval(*interval, 4 + net.places + 4 * t)?;
     }
     Ok(())
 }
@@ -301,46 +277,44 @@ fn put_interval(w: &mut Writer, t: Transition)
 }
 
 // The two lines of a transition's weights.
-fn put_weights(w: &mut Writer, take: [u8; 16], give: [u8; 16], places: usize)
-    requires { places ≤ 16 }
-    ensures { Writes w.old ((weights places).text (take, give)) w.new }
+fn put_weights(w: &mut Writer, take: &[u8], give: &[u8])
+    ensures { Writes w.old ((bytes "take=" ++ items_text take.now) ++ (bytes "give=" ++ items_text give.now)) w.new }
 {
-    form::put_items_line(w, b"take=", &take[..places]);
-    form::put_items_line(w, b"give=", &give[..places]);
+    form::put_items_line(w, b"take=", take);
+    form::put_items_line(w, b"give=", give);
 }
 
-// Sixteen weights of an array, the first in a slot and each next one a step further.
-fn row_of(table: &[u8; 512], first: usize, step: usize) -> [u8; 16]
-    requires { first + step * 15 < 512 }
-    ensures { result ≡ filled (λ p. get_or table.now (first + step * p) 0) 16 (replicate 16 0) }
+// Sixteen weights of an array, from the first slot on, whatever the count.
+fn row_of(table: &[u8; 512], from: Slots) -> [u8; 16]
+    ensures { result ≡ filled (λ p. get_or table.now (from.first + from.step * p) 0) 16 (replicate 16 0) }
 {
     let mut row = [0u8; 16];
-    for p in 0..16 {
-        row[p] = table[first + step * p];
+    for (p, weight) in row.iter_mut().enumerate() {
+        *weight = table[from.first + from.step * p];
     }
     row
 }
 
-// The lines of all transitions.
+// The lines of all transitions. That the counts are within the arrays is what the check of `write_net` found, and no part of a net as a type.
 fn put_table(w: &mut Writer, net: Net)
     requires { (net.places ≤ 16) × (net.transitions ≤ 32) }
     ensures { Writes w.old ((rows net.places net.transitions).text (rows_of net)) w.new }
 {
-    for t in 0..net.transitions {
-        let take = row_of(&net.take, t, 32);
-        let give = row_of(&net.give, 16 * t, 1);
-        put_interval(w, net.table[t]);
-        put_weights(w, take, give, net.places);
+    for (t, interval) in net.table[..net.transitions].iter().enumerate() {
+        let take = row_of(&net.take, Slots::taken(net.places, t));
+        let give = row_of(&net.give, Slots::given(net.places, t));
+        put_interval(w, *interval);
+        put_weights(w, &take[..net.places], &give[..net.places]);
     }
 }
 
 // The lines `start`.
-fn put_start(w: &mut Writer, start: [u8; 16], places: usize)
-    requires { places ≤ 16 }
-    ensures { Writes w.old ((starts places).text start) w.new }
+fn put_start(w: &mut Writer, start: &[u8])
+    requires { length start.now ≤ 16 }
+    ensures { Writes w.old ((starts (length start.now)).text start.now) w.new }
 {
-    for i in 0..places {
-        form::put_number_line(w, b"start=", start[i] as u64);
+    for tokens in start {
+        form::put_number_line(w, b"start=", *tokens as u64);
     }
 }
 
@@ -352,11 +326,11 @@ fn put_lines(w: &mut Writer, net: Net)
     form::put_number_line(w, b"sheet=", net.sheet as u64);
     form::put_number_line(w, b"places=", net.places as u64);
     form::put_number_line(w, b"transitions=", net.transitions as u64);
-    put_start(w, net.start, net.places);
+    put_start(w, &net.start[..net.places]);
     put_table(w, net);
 }
 
-// The card of a net at the front of an output, and how many bytes it has.
+// The card of a net at the front of an output, and how many bytes it has, as `console::refusal_front` does.
 fn put_net(out: &mut [u8], net: Net) -> usize
     requires { (net.places ≤ 16) × (net.transitions ≤ 32) }
     ensures { Puts out.old 0 (net_card.text net) result out.new }

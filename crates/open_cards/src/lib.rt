@@ -11,10 +11,11 @@ ghost use Rattle.operations.specs.Operation.{once_read};
 ghost use Rattle.open_run.specs.Cards.{denominator, opening, open_cards, opened_card, card_after, wait_cards, fire_cards, close_cards, state_cards, timetable_now_cards};
 ghost use Rattle.open_cards.specs.Code.{opening_read, opening_on, record_of};
 
+use form::{Judge, OwnSheet, Range};
 use net::Net;
 use open_run::{Entered, OpenRun};
 use reply::Refusal;
-use run::Memory;
+use run::{Memory, Run};
 
 // ---- opening
 
@@ -22,8 +23,8 @@ use run::Memory;
 fn denominator_line(s: &[u8], at: usize) -> Result<(u32, usize), Refusal>
     ensures { result ≡ denominator.read s.now at 3 }
 {
-    let (value, next) = form::number_line(s, at, b"denominator=", 0, 999999999, 3)?;
-    form::check_range(value as u64, 1, 1000, 0)?;
+    let (value, next) = form::number_line(s, at, b"denominator=", Range(0, 999999999), 3)?;
+    Range(1, 1000).check(value as u64, 0)?;
     Ok((value, next))
 }
 
@@ -40,7 +41,7 @@ fn opening_on_sheet(s: &[u8], at: usize) -> Result<((Memory, u32), usize), Refus
 pub fn read_opening(s: &[u8], own: u32) -> Result<((Memory, u32), usize), Refusal>
     ensures { result ≡ opening_read (front (opening own) s.now) }
 {
-    let (_, next) = form::sheet_line(s, 0, own, 1)?;
+    let (_, next) = form::number_line(s, 0, b"sheet=", OwnSheet(own), 1)?;
     opening_on_sheet(s, next)
 }
 
@@ -50,7 +51,7 @@ fn respond_entered(e: Entered, out: &mut [u8]) -> Result<usize, Refusal>
     ensures { Responded (card_after e) out.old result out.new }
 {
     e.checked?;
-    run_card::write_run(e.run.net, e.run.run, out)
+    run_card::write(e.run.net, e.run.run, out)
 }
 
 // Opens a run on a net that was read, by the lines behind it.
@@ -73,13 +74,14 @@ pub fn open_cards(input: &[u8], out: &mut [u8]) -> Result<usize, Refusal>
     open_behind(net, net_card::remainder(input, next), out)
 }
 
-// ---- steps and calls
+// ---- steps and calls: each reads the record and hands it to its operation. The five differ in the operation and in what it takes, not in a type: one function
+// for all would take the operation as a parameter, for two lines each.
 
 // The record that two cards stand for; cards that are refused are no open run.
 fn record_in(input: &[u8]) -> Result<OpenRun, Refusal>
     ensures { result ≡ record_of (run_cards input.now) }
 {
-    match run_card::net_and_run(input) {
+    match run_card::net_and::<Run>(input) {
         Ok((net, run)) => Ok(OpenRun {
             net,
             run,

@@ -1,21 +1,21 @@
--- Two runs compared: the loop over their firings keeps that all transitions so far are the same (`Alike`); and what their checks and replays say.
-use Prim.Native.Nat.{ℕ, ◌+◌, ◌≤◌, ◌<◌, min}
-use native.Mathlib.Nat.{min-eq_left, not-suc-le-zero, le_of_suc-le-suc, eq-or-lt_of_le}
-use native.Mathlib.Numerals.{add-one}
+-- Two runs compared: their firings in pairs; and what their checks and replays say.
+use Prim.Native.Nat.{ℕ, ◌≤◌}
+use native.Mathlib.Nat.{min-eq_left}
 use native.Mathlib.Omega.{arith}
 use mathlib.Core.Path.{◌≡◌, refl, sym, ap, ◌∙◌}
-use mathlib.Core.Bool.{Bool, true, false, cond}
-use mathlib.Core.Logic.{⊎_elim}
-use mathlib.Core.List.{List}
-use lib.ListN.{length, get_or}
-use Rattle.laws.specs.Slots.{first_of, mapped_same}
+use mathlib.Core.Bool.{Bool, false, cond, ◌&&◌}
+use mathlib.Core.List.{List, [], ◌∷◌}
+use lib.Dec.{eqb}
+use lib.ListN.{length, take}
+use Rattle.laws.specs.Slots.{first_of, first_take}
+use Rattle.std.specs.List.{list_all, zip}
 use Rattle.std.specs.Prelude.{Err}
 use Rattle.reply.specs.declared.Refusal.{Refusal}
 use Rattle.reply.specs.declared.Refusal.TheVariants.{OtherOrder}
 use Rattle.reply.specs.Respond.{Passed}
 use Rattle.ranking.specs.Lead.{of_one_order}
 use Rattle.ranking.specs.Ranking.{rankable}
-use Rattle.laws.specs.Tests.{same_numbers, same_numbers_exactly, not_same}
+use Rattle.laws.specs.Tests.{same_numbers, not_same}
 use Rattle.form.specs.Form.{also}
 use Rattle.form.proofs.Found.{also_also}
 use Rattle.net.specs.declared.Net.{Net}
@@ -27,60 +27,32 @@ use Rattle.firing.specs.declared.Played.{Played}
 use Rattle.firing.specs.Semantics.{arcs_of, rule_of}
 use Rattle.firing.specs.Replay.{start_state, play}
 use Rattle.firing.proofs.Accept.{replay_plays}
-use Rattle.run.proofs.Firings.{length_firings, fire_at_lem}
+use Rattle.run.proofs.Firings.{length_firings}
 use Rattle.timing.proofs.Meet.{length_order}
 use Rattle.cards.specs.Cards.{card_of, run_checked, two_runs_checked}
 use Rattle.operations.specs.Replay.{replayed}
 use Rattle.ranking.proofs.Ranks.{order_length}
 
 -- ---- the order of firings
--- the transition in slot k
-abbrev pub fire_at : Run → ℕ → ℕ
-fire_at r k = (get_or r.firings k no_firing).fire
+-- as many firings are of one order exactly where each pair has one transition
+pub orders_same : (k l : List Firing) → length k ≡ length l → list_all (λ p. eqb p.0.fire p.1.fire) (zip k l) ≡ same_numbers (order_of k) (order_of l)
+unfolding same_numbers order_of
+orders_same [] [] e = refl
+orders_same [] (g ∷ l) e = absurd (omega (arith, e))
+orders_same (f ∷ k) [] e = absurd (omega (arith, e))
+orders_same (f ∷ k) (g ∷ l) e = ap (λ (b : Bool). eqb f.fire g.fire && b) (orders_same k l (omega (arith, e)))
 
-module _ (x y : Run) where
-  -- runs with as many slots, and the same transition in each below i
-  pub record Alike (i : ℕ) : Type 0 where
-    pub counts : x.count ≡ y.count
-    pub few : x.count ≤ 64
-    pub within : i ≤ x.count
-    pub same : (k : ℕ) → k < i → fire_at x k ≡ fire_at y k
+-- the slots that count
+pub counted : (r : Run) → r.count ≤ 64 → length r.firings ≡ 64 → take r.count r.firings ≡ firings_of r
+unfolding firings_of
+counted r few all = first_take r.count no_firing r.firings (omega (arith, all)) ∙ ap (λ (n : ℕ). first_of n no_firing r.firings) (sym (min-eq_left few))
 
-  pub alike_start : x.count ≡ y.count → x.count ≤ 64 → Alike 0
-  alike_start e few = record { counts = e; few = few; within = omega arith; same = λ k l. absurd (not-suc-le-zero l) }
-
-  -- runs of other counts are of other orders
-  pub other_count : x.count ≤ 64 → y.count ≤ 64 → (x.count ≡ y.count → ⊥) → same_numbers (order_of (firings_of x)) (order_of (firings_of y)) ≡ false
-  other_count p q other =
-      let size : (r : Run) → r.count ≤ 64 → length (firings_of r) ≡ r.count = λ r l. length_firings r ∙ min-eq_left l in
-      not_same (order_of (firings_of x)) (order_of (firings_of y))
-      (λ e. other (sym (size x p) ∙ order_length x (order_of (firings_of y)) e ∙ length_order (firings_of y) ∙ size y q))
-
-module _ {x y : Run} {i : ℕ} (a : Alike x y i) where
-  -- the next slot holds the same transition; it holds another; and there is none
-  pub alike_more : i < x.count → fire_at x i ≡ fire_at y i → Alike x y (i + 1)
-  alike_more l e =
-      record {
-        counts = a.counts;
-        few = a.few;
-        within = omega arith;
-        same = λ k b. ⊎_elim (λ q. rw q e) (a.same k) (eq-or-lt_of_le (le_of_suc-le-suc (rw add-one at b)));
-      }
-
-  pub other_fire : i < x.count → (fire_at x i ≡ fire_at y i → ⊥) → same_numbers (order_of (firings_of x)) (order_of (firings_of y)) ≡ false
-  other_fire l other =
-      let m = min-eq_left a.few in
-      not_same (order_of (firings_of x)) (order_of (firings_of y))
-      (λ e. other (sym (fire_at_lem x i (omega arith)) ∙ ap (λ (k : List ℕ). get_or k i 0) e ∙ fire_at_lem y i (rw (← a.counts) (omega arith))))
-
-  pub alike_done : x.count ≤ i → same_numbers (order_of (firings_of x)) (order_of (firings_of y)) ≡ true
-  unfolding firings_of order_of
-  alike_done l =
-      let n = min x.count 64 in
-      let m : n ≡ x.count = min-eq_left a.few in
-      (same_numbers_exactly (order_of (firings_of x)) (order_of (firings_of y))).1
-      (mapped_same (λ (f : Firing). f.fire) n no_firing x.firings y.firings (λ k b. a.same k (omega (arith, a.within))) ∙
-      ap (λ (c : ℕ). order_of (first_of (min c 64) no_firing y.firings)) a.counts)
+-- runs of other counts are of other orders
+pub other_count : (x y : Run) → x.count ≤ 64 → y.count ≤ 64 → (x.count ≡ y.count → ⊥) → same_numbers (order_of (firings_of x)) (order_of (firings_of y)) ≡ false
+other_count x y p q other =
+    let size : (r : Run) → r.count ≤ 64 → length (firings_of r) ≡ r.count = λ r l. length_firings r ∙ min-eq_left l in
+    not_same (order_of (firings_of x)) (order_of (firings_of y))
+    (λ e. other (sym (size x p) ∙ order_length x (order_of (firings_of y)) e ∙ length_order (firings_of y) ∙ size y q))
 
 -- ---- checks one after the other
 -- two runs of a net are checked as the first is, then the second

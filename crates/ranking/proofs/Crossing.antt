@@ -1,4 +1,4 @@
--- Two runs counted side by side: the products that decide, how small they are, and the sign of their difference.
+-- Two runs counted side by side: the products that decide, and how small they are.
 use Rattle.reply.specs.Respond.{Passed}
 use Prim.Native.Nat.{ℕ, zero, suc, ◌+◌, ◌-◌, ◌*◌, ◌^◌, ◌≤◌, ◌<◌, min}
 use native.Mathlib.Nat.{lt_of_le_of_lt, mul-le-mul}
@@ -6,11 +6,12 @@ use native.Mathlib.Numerals.{add-one}
 use native.Mathlib.Omega.{arith}
 use native.Mathlib.Decide.{dec_lt, ℕ_discrete}
 use mathlib.Core.Path.{◌≡◌, sym, ap, ◌∙◌}
-use lib.ListN.{length, get_or}
+use lib.ListN.{length, take, get_or, length-take}
+use Rattle.std.proofs.lemmas.List.{get_or-take}
 use lib.Dec.{lit<}
-use lib.IntN.{pos, negsuc, ◌-ℤ◌}
-use Rattle.laws.specs.Differences.{same_exactly, less_exactly, more_exactly}
+use lib.IntN.{pos, ◌-ℤ◌}
 use Rattle.laws.specs.Each.{each_at}
+use Rattle.run.specs.declared.Firing.{Firing}
 use Rattle.run.specs.declared.Run.{Run}
 use Rattle.run.specs.Run.{run_card, no_firing, firings_of, waits_of}
 use Rattle.run.proofs.Ranges.{FiringFits, RunFits, run_in_ranges}
@@ -19,20 +20,9 @@ use Rattle.timing.specs.Rounding.{last_instant, end_instant}
 use Rattle.timing.proofs.Meet.{instants_zero}
 use Rattle.timing.proofs.Instants.{instants_next}
 use Rattle.operations.specs.Claims.{instants_of}
-use Rattle.ranking.specs.Lead.{instant_of, lead_at, lead_from, lead_of, sign_of}
+use Rattle.ranking.specs.Lead.{instant_of, lead_at, lead_from, lead_of}
 use Rattle.ranking.specs.Claims.{SameInstant}
 use Rattle.ranking.proofs.Ranks.{firing_instant, end_instant_lem, lead_next, lead_here, lead_last}
-
--- ---- the sign of a difference
-module _ (a b : ℕ) where
-  pub sign_less : a < b → negsuc 0 ≡ sign_of (pos a -ℤ pos b)
-  sign_less l = sym (ap sign_of ((less_exactly a b).1 l).1)
-
-  pub sign_more : b < a → pos 1 ≡ sign_of (pos a -ℤ pos b)
-  sign_more l = sym (ap sign_of ((more_exactly a b).1 l).1)
-
-  pub sign_same : a ≡ b → pos 0 ≡ sign_of (pos a -ℤ pos b)
-  sign_same e = sym (ap sign_of ((same_exactly a b).1 e))
 
 -- ---- one run that passes its check
 abbrev Card : Run → Type 0
@@ -115,6 +105,13 @@ crossed : {x y : Run} {a b i : ℕ} → Meeting x y a b i → lead_of x y ≡ le
 unfolding lead_at
 crossed m e = (rw (← m.first.there, ← m.second.there) (sym e), m.first_small, m.second_small)
 
+-- the i-th of the firings that count, one of each run
+abbrev pub Turn : Run → Run → ℕ → Firing → Firing → Type 0
+Turn x y i f g =
+    let k = take x.count x.firings in
+    let l = take y.count y.firings in
+    (i < length k) × (i < length l) × ((d : Firing) → f ≡ get_or k i d) × ((d : Firing) → g ≡ get_or l i d)
+
 -- the two side by side: all is equal before instant i
 pub record Abreast (x y : Run) (sx sy i : ℕ) : Type 0 where
   pub brief : x.count ≤ 64
@@ -164,6 +161,26 @@ module _ (x y : Run) (cards : Card x × Card y × (x.count ≡ y.count)) where
             second = counted_next y cards.1 h.second (omega (arith, cards.2));
             same = h.same ∙ lead_next x y i (x.count - i) equal ∙ ap (lead_from x y (suc i)) one_less;
           })
+
+    -- the same of the firings that a loop over both runs gives in turn
+    module _ {f g : Firing} (t : Turn x y i f g) where
+      turn : i < x.count
+      turn = omega (arith, t.0, length-take x.count x.firings)
+
+      first_now : f ≡ get_or x.firings i no_firing
+      first_now = t.2 no_firing ∙ get_or-take x.count x.firings i no_firing turn
+
+      second_now : g ≡ get_or y.firings i no_firing
+      second_now = t.3 no_firing ∙ get_or-take y.count y.firings i no_firing (omega (arith, t.1, length-take y.count y.firings))
+
+      abbrev Equal : Type 0
+      Equal = (sx + f.wait) * y.denominator ≡ (sy + g.wait) * x.denominator
+
+      pub crossed_turn : (Equal → ⊥) → Crosses x y ((sx + f.wait) * y.denominator) ((sy + g.wait) * x.denominator)
+      crossed_turn other = rw (first_now, second_now) (crossed_here turn (λ e. other (rw (first_now, second_now) e)))
+
+      pub abreast_turn : Equal → Abreast x y (sx + f.wait) (sy + g.wait) (i + 1)
+      abreast_turn e = rw (first_now, second_now) (abreast_next turn (rw (first_now, second_now) at e))
 
     -- where none differ, the ends decide
     module _ (l : x.count ≤ i) where

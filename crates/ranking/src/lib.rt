@@ -16,9 +16,11 @@ ghost use Rattle.ranking.specs.Ranking.{rankable, Ranked, rank_values, signed, l
 use net::Net;
 use reply::Refusal;
 use run::{Memory, Run};
+use run_card::Card;
+use std::cmp::Ordering;
 use text::Writer;
 
-// How one run stands to another: -1, 0 or 1 and the signed lead, negative for a run that is earlier.
+// How one run stands to another: -1, 0 or 1 and the signed lead, negative for a run that is earlier. The rank is a number, as document 02, Q-2, prints it.
 #[derive(Clone, Copy)]
 pub struct Ranking {
     pub rank: i32,
@@ -44,15 +46,8 @@ fn same_firings(x: Run, y: Run) -> bool
     requires { (x.count ≤ 64) × (y.count ≤ 64) }
     ensures { result ≡ same_numbers (order_of (firings_of x)) (order_of (firings_of y)) }
 {
-    if x.count != y.count {
-        return false;
-    }
-    for i in 0..x.count {
-        if x.firings[i].fire != y.firings[i].fire {
-            return false;
-        }
-    }
-    true
+    let mut pairs = x.firings[..x.count].iter().zip(&y.firings[..y.count]);
+    x.count == y.count && pairs.all(|(a, b)| a.fire == b.fire)
 }
 
 // Why two runs that passed their checks are not ranked.
@@ -77,9 +72,9 @@ fn deciding(x: Run, y: Run) -> Crossed
     let dy = y.denominator as u64;
     let mut sx: u64 = 0;
     let mut sy: u64 = 0;
-    for i in 0..x.count {
-        sx += x.firings[i].wait as u64;
-        sy += y.firings[i].wait as u64;
+    for (a, b) in x.firings[..x.count].iter().zip(&y.firings[..y.count]) {
+        sx += a.wait as u64;
+        sy += b.wait as u64;
         let px = sx * dy;
         let py = sy * dx;
         if px != py {
@@ -98,13 +93,11 @@ fn deciding(x: Run, y: Run) -> Crossed
 fn sign_of(lead: Crossed) -> Crossed
     ensures { (pos result.x -ℤ pos result.y ≡ sign_of (pos lead.x -ℤ pos lead.y)) × (result.x ≤ 1) × (result.y ≤ 1) }
 {
-    if lead.x < lead.y {
-        return Crossed { x: 0, y: 1 };
+    match lead.x.cmp(&lead.y) {
+        Ordering::Less => Crossed { x: 0, y: 1 },
+        Ordering::Equal => Crossed { x: 0, y: 0 },
+        Ordering::Greater => Crossed { x: 1, y: 0 },
     }
-    if lead.y < lead.x {
-        return Crossed { x: 1, y: 0 };
-    }
-    Crossed { x: 0, y: 0 }
 }
 
 // The ranking by a lead.
@@ -123,8 +116,8 @@ fn ranked(lead: Crossed) -> Ranking
 fn check_two_runs(net: Net, x: Run, y: Run) -> Result<(), Refusal>
     ensures { result ≡ two_runs_checked net x y }
 {
-    run_card::check_run(net, x)?;
-    run_card::check_run_lines(y, net.sheet, net.transitions)
+    run_card::check(net, x)?;
+    y.check_lines(net.sheet, net.transitions)
 }
 
 // Ranks run X among two runs of one order on a net, all handed over as values.
@@ -157,7 +150,7 @@ fn put_lead_lines(w: &mut Writer, lead: Crossed)
     put_lead_line(w, b"lead=", lead);
 }
 
-// The same at the front of an output, and how many bytes they have.
+// The same at the front of an output, and how many bytes they have, as `console::refusal_front` does.
 fn put_lead(out: &mut [u8], lead: Crossed) -> usize
     ensures { Puts out.old 0 (lead_lines (sign_of (pos lead.x -ℤ pos lead.y)) (pos lead.x -ℤ pos lead.y)) result out.new }
 {
@@ -183,8 +176,12 @@ fn net_and_runs(input: &[u8]) -> Result<(Net, (Run, Run)), Refusal>
 {
     let (net, next) = net_card::read_net(input)?;
     let behind = net_card::remainder(input, next);
-    let (x, end) = run_card::run_front(behind, net.sheet, net.transitions)?;
-    let (y, _) = run_card::run_card(net_card::remainder(behind, end), net.sheet, net.transitions)?;
+    let (x, end) = Run::front(behind, net.sheet, net.transitions)?;
+    let (y, _) = run_card::whole::<Run>(
+        net_card::remainder(behind, end),
+        net.sheet,
+        net.transitions,
+    )?;
     Ok((net, (x, y)))
 }
 

@@ -1,3 +1,4 @@
-pub mod Check
-pub mod Read
-pub mod Write
+pub mod Checking
+pub mod Parts
+pub mod Reading
+pub mod Writing

@@ -1,33 +1,23 @@
 // The run card and the order card of a net: read, checked as values, written.
 #![tactic(auto)]
 
-ghost use Rattle.std.specs.Prelude.{◌≡◌, ◌++◌, ◌≤◌, IfOk};
+ghost use Rattle.std.specs.Prelude.{ℕ, ◌≡◌, ◌++◌, ◌*◌, ◌≤◌, length, refl};
 ghost use Rattle.laws.specs.Writing.{Puts};
-ghost use Rattle.reply.specs.Respond.{Responded};
+ghost use Rattle.reply.specs.Respond.{Responded, Passed};
 ghost use Rattle.text.specs.Key.{bytes};
 ghost use Rattle.text.specs.Writer.{Writes};
-ghost use Rattle.form.specs.Form.{keyed, exactly, times, front, ended, alone};
+ghost use Rattle.form.specs.Form.{Form, keyed, texts, checks, times, front, alone};
 ghost use Rattle.form.specs.Code.{value_read};
-ghost use Rattle.run.specs.Run.{memory, memory_text, fire, firing, no_firing, steps, run_lines, to_run, run_card, order_lines, order_card};
-ghost use Rattle.cards.specs.Cards.{read_run, read_order, run_checked, order_checked, run_text, order_text, run_cards, order_cards};
-ghost use Rattle.run_card.specs.Code.{run_on, run_from, order_on, order_from};
+ghost use Rattle.run.specs.Run.{memory, memory_text, fire, firing, no_firing, run_lines, run_card, order_lines, order_card};
+ghost use Rattle.cards.specs.Cards.{read_card, card_checked, card_text, both_cards};
+ghost use Rattle.run_card.specs.Code.{run_on, order_on};
+ghost use Rattle.run_card.specs.Laws.{one_each, two_each, run_same_text, run_fits, order_same_text, order_fits};
 
+use form::{Judge, Listed, OwnSheet, Range};
 use net::Net;
 use reply::Refusal;
-use run::{Firing, Memory, Order, Run};
+use run::{Firing, Memory, NO_FIRING, Order, Run};
 use text::Writer;
-
-// The values of the first four lines of a run card.
-#[derive(Clone, Copy)]
-struct Heading {
-    sheet: u32,
-    memory: Memory,
-    denominator: u32,
-    count: usize,
-}
-
-// What stands for a firing that was not read.
-const NO_FIRING: Firing = Firing { wait: 0, fire: 0 };
 
 // The memory word that stands at a position, and the line's end.
 fn memory_at(s: &[u8], at: usize, line: usize) -> Result<(Memory, usize), Refusal>
@@ -55,211 +45,6 @@ pub fn memory_line(s: &[u8], at: usize, line: usize) -> Result<(Memory, usize), 
     memory_at(s, at + 7, line)
 }
 
-// The lines `wait` and `fire` of one firing.
-fn one_firing(
-    s: &[u8],
-    at: usize,
-    transitions: usize,
-    line: usize,
-) -> Result<(Firing, usize), Refusal>
-    requires { line ≤ 1000 }
-    ensures { result ≡ (firing transitions).read s.now at line }
-{
-    let (wait, behind) = form::number_line(s, at, b"wait=", 0, 10000000, line)?;
-    let (fire, next) = form::listed_line(s, behind, b"fire=", transitions as u64, line + 1)?;
-    Ok((Firing { wait, fire }, next))
-}
-
-// A run from its heading and the lines behind that.
-fn run_from(s: &[u8], at: usize, transitions: usize, head: Heading) -> Result<(Run, usize), Refusal>
-    requires { head.count ≤ 64 }
-    ensures value { result ≡
-        run_from head.sheet head.memory head.denominator head.count ((steps transitions head.count).read s.now at 5) }
-    ensures few { IfOk result (λ v. v.0.count ≤ 64) }
-{
-    let mut firings = [NO_FIRING; 64];
-    let mut next = at;
-    for i in 0..head.count {
-        let (firing, behind) = one_firing(s, next, transitions, 5 + 2 * i)?;
-        firings[i] = firing;
-        next = behind;
-    }
-    let (rest, end) = form::number_line(s, next, b"rest=", 0, 10000000, 5 + 2 * head.count)?;
-    let run = Run {
-        sheet: head.sheet,
-        memory: head.memory,
-        denominator: head.denominator,
-        count: head.count,
-        firings,
-        rest,
-    };
-    Ok((run, end))
-}
-
-// The lines of a run card behind its sheet.
-fn run_on_sheet(
-    s: &[u8],
-    at: usize,
-    sheet: u32,
-    transitions: usize,
-) -> Result<(Run, usize), Refusal>
-    ensures value { result ≡ run_on sheet ((run_lines transitions).read s.now at 2) }
-    ensures few { IfOk result (λ v. v.0.count ≤ 64) }
-{
-    let (memory, at_denominator) = memory_line(s, at, 2)?;
-    let (denominator, at_count) = form::number_line(
-        s,
-        at_denominator,
-        b"denominator=",
-        1,
-        1000,
-        3,
-    )?;
-    let (count, next) = form::number_line(s, at_count, b"firings=", 0, 64, 4)?;
-    let head = Heading {
-        sheet,
-        memory,
-        denominator,
-        count: count as usize,
-    };
-    run_from(s, next, transitions, head)
-}
-
-// Reads the run card at the front of an input, of a net on a sheet and with so many transitions: the run, and the position behind the card.
-pub fn run_front(s: &[u8], own: u32, transitions: usize) -> Result<(Run, usize), Refusal>
-    ensures value { result ≡ front (run_card own transitions) s.now }
-    ensures few { IfOk result (λ v. v.0.count ≤ 64) }
-{
-    let (sheet, next) = form::sheet_line(s, 0, own, 1)?;
-    run_on_sheet(s, next, sheet, transitions)
-}
-
-// The same of an input behind whose run card nothing may follow.
-pub fn run_card(s: &[u8], own: u32, transitions: usize) -> Result<(Run, usize), Refusal>
-    ensures { result ≡ alone (run_card own transitions) s.now }
-{
-    let (run, end) = run_front(s, own, transitions)?;
-    if end < s.len() {
-        return Err(Refusal::Malformed(6 + 2 * run.count));
-    }
-    Ok((run, end))
-}
-
-// An order from the values of its first three lines and the lines behind them.
-fn order_from(
-    s: &[u8],
-    at: usize,
-    sheet: u32,
-    transitions: usize,
-    memory: Memory,
-    count: usize,
-) -> Result<(Order, usize), Refusal>
-    requires { count ≤ 64 }
-    ensures value { result ≡ order_from sheet memory count ((times count 64 0 (fire transitions)).read s.now at 4) }
-    ensures few { IfOk result (λ v. v.0.count ≤ 64) }
-{
-    let mut fires = [0u32; 64];
-    let mut next = at;
-    for i in 0..count {
-        let (t, behind) = form::listed_line(s, next, b"fire=", transitions as u64, 4 + i)?;
-        fires[i] = t;
-        next = behind;
-    }
-    let order = Order {
-        sheet,
-        memory,
-        count,
-        fires,
-    };
-    Ok((order, next))
-}
-
-// The lines of an order card behind its sheet.
-fn order_on_sheet(
-    s: &[u8],
-    at: usize,
-    sheet: u32,
-    transitions: usize,
-) -> Result<(Order, usize), Refusal>
-    ensures value { result ≡ order_on sheet ((order_lines transitions).read s.now at 2) }
-    ensures few { IfOk result (λ v. v.0.count ≤ 64) }
-{
-    let (memory, at_count) = memory_line(s, at, 2)?;
-    let (count, next) = form::number_line(s, at_count, b"firings=", 0, 64, 3)?;
-    order_from(s, next, sheet, transitions, memory, count as usize)
-}
-
-// Reads the order card at the front of an input, likewise.
-fn order_front(s: &[u8], own: u32, transitions: usize) -> Result<(Order, usize), Refusal>
-    ensures value { result ≡ front (order_card own transitions) s.now }
-    ensures few { IfOk result (λ v. v.0.count ≤ 64) }
-{
-    let (sheet, next) = form::sheet_line(s, 0, own, 1)?;
-    order_on_sheet(s, next, sheet, transitions)
-}
-
-// The same of an input behind whose order card nothing may follow.
-pub fn order_card(s: &[u8], own: u32, transitions: usize) -> Result<(Order, usize), Refusal>
-    ensures { result ≡ alone (order_card own transitions) s.now }
-{
-    let (order, next) = order_front(s, own, transitions)?;
-    if next < s.len() {
-        return Err(Refusal::Malformed(4 + order.count));
-    }
-    Ok((order, next))
-}
-
-// One firing, as its two lines would be checked.
-fn check_one_firing(f: Firing, transitions: usize, line: usize) -> Result<(), Refusal>
-    requires { line ≤ 1000 }
-    ensures { result ≡ (firing transitions).check f line }
-{
-    form::check_range(f.wait as u64, 0, 10000000, line)?;
-    form::check_listed(f.fire as u64, transitions as u64, line + 1)
-}
-
-// The firings of a run, as their lines would be checked.
-fn check_all_firings(firings: [Firing; 64], transitions: usize, count: usize) -> Result<(), Refusal>
-    requires { count ≤ 64 }
-    ensures { result ≡ (exactly count 64 no_firing (firing transitions)).check firings 5 }
-{
-    for i in 0..count {
-        check_one_firing(firings[i], transitions, 5 + 2 * i)?;
-    }
-    Ok(())
-}
-
-// A run of a net on a sheet and with so many transitions, as its card would be checked.
-pub fn check_run_lines(run: Run, own: u32, transitions: usize) -> Result<(), Refusal>
-    ensures { result ≡ (run_card own transitions).check run 1 }
-{
-    form::check_sheet(run.sheet, own, 1)?;
-    form::check_range(run.denominator as u64, 1, 1000, 3)?;
-    form::check_range(run.count as u64, 0, 64, 4)?;
-    check_all_firings(run.firings, transitions, run.count)?;
-    form::check_range(run.rest as u64, 0, 10000000, 5 + 2 * run.count)
-}
-
-// The fired transitions of an order, as their lines would be checked.
-fn check_all_fires(fires: [u32; 64], transitions: usize, count: usize) -> Result<(), Refusal>
-    requires { count ≤ 64 }
-    ensures { result ≡ (exactly count 64 0 (fire transitions)).check fires 4 }
-{
-    for i in 0..count {
-        form::check_listed(fires[i] as u64, transitions as u64, 4 + i)?;
-    }
-    Ok(())
-}
-
-// An order of a net on a sheet and with so many transitions, as its card would be checked.
-fn check_order_lines(order: Order, own: u32, transitions: usize) -> Result<(), Refusal>
-    ensures { result ≡ (order_card own transitions).check order 1 }
-{
-    form::check_sheet(order.sheet, own, 1)?;
-    form::check_range(order.count as u64, 0, 64, 3)?;
-    check_all_fires(order.fires, transitions, order.count)
-}
-
 // The line `memory`.
 fn put_memory_line(w: &mut Writer, m: Memory)
     ensures { Writes w.old (bytes "memory=" ++ memory_text m) w.new }
@@ -272,140 +57,356 @@ fn put_memory_line(w: &mut Writer, m: Memory)
     }
 }
 
-// The two lines of a firing.
-fn put_one_firing(w: &mut Writer, f: Firing)
-    ensures { Writes w.old ((firing 0).text f) w.new }
-{
-    form::put_number_line(w, b"wait=", f.wait as u64);
-    form::put_number_line(w, b"fire=", f.fire as u64);
+// What a card has for each firing: a firing of a run, the fired transition of an order.
+trait Part: Copy {
+    // Its form, in a net of so many transitions.
+    ghost form: { ℕ → Form Self };
+
+    // How many lines it has.
+    ghost LINES: { ℕ };
+
+    const LINES: usize;
+
+    // What stands for a part that was not read.
+    ghost NONE: { Self };
+
+    const NONE: Self;
+
+    // Reads the part that stands at a position: the value, and the position behind it.
+    fn read(s: &[u8], at: usize, transitions: usize, line: usize) -> Result<(Self, usize), Refusal>
+        requires { line ≤ 1000 }
+        ensures { result ≡ (form transitions).read s.now at line };
+
+    // Checks the value, as its lines would be checked.
+    fn check(self, transitions: usize, line: usize) -> Result<(), Refusal>
+        requires { line ≤ 1000 }
+        ensures { result ≡ (form transitions).check self line };
+
+    // Writes its lines.
+    fn put(self, w: &mut Writer)
+        ensures { Writes w.old ((form 0).text self) w.new };
+
+    // Each part has so many lines.
+    ghost each: { (n : ℕ) (a : Self) → (form n).lines a ≡ LINES };
+
+    // 64 parts have 128 lines at most.
+    ghost few: { (i : ℕ) → i ≤ 64 → LINES * i ≤ 128 };
 }
 
-// The lines of all firings.
-fn put_all_firings(w: &mut Writer, firings: [Firing; 64], count: usize)
-    requires { count ≤ 64 }
-    ensures { Writes w.old ((exactly count 64 no_firing (firing 0)).text firings) w.new }
+// A firing of a run: the lines `wait` and `fire`.
+impl Part for Firing {
+    ghost form = { firing };
+
+    ghost LINES = { 2 };
+
+    const LINES: usize = 2;
+
+    ghost NONE = { no_firing };
+
+    const NONE: Firing = NO_FIRING;
+
+    fn read(
+        s: &[u8],
+        at: usize,
+        transitions: usize,
+        line: usize,
+    ) -> Result<(Firing, usize), Refusal> {
+        let (wait, behind) = form::number_line(s, at, b"wait=", Range(0, 10000000), line)?;
+        let (fire, next) = form::number_line(
+            s,
+            behind,
+            b"fire=",
+            Listed(transitions as u64),
+            line + 1,
+        )?;
+        Ok((Firing { wait, fire }, next))
+    }
+
+    fn check(self, transitions: usize, line: usize) -> Result<(), Refusal> {
+        Range(0, 10000000).check(self.wait as u64, line)?;
+        Listed(transitions as u64).check(self.fire as u64, line + 1)
+    }
+
+    fn put(self, w: &mut Writer) {
+        form::put_number_line(w, b"wait=", self.wait as u64);
+        form::put_number_line(w, b"fire=", self.fire as u64);
+    }
+
+    ghost each = { λ n f. refl };
+
+    ghost few = { two_each };
+}
+
+// The fired transition of an order: the line `fire`.
+impl Part for u32 {
+    ghost form = { fire };
+
+    ghost LINES = { 1 };
+
+    const LINES: usize = 1;
+
+    ghost NONE = { 0 };
+
+    const NONE: u32 = 0;
+
+    fn read(s: &[u8], at: usize, transitions: usize, line: usize) -> Result<(u32, usize), Refusal> {
+        form::number_line(s, at, b"fire=", Listed(transitions as u64), line)
+    }
+
+    fn check(self, transitions: usize, line: usize) -> Result<(), Refusal> {
+        Listed(transitions as u64).check(self as u64, line)
+    }
+
+    fn put(self, w: &mut Writer) {
+        form::put_number_line(w, b"fire=", self as u64);
+    }
+
+    ghost each = { λ n t. refl };
+
+    ghost few = { one_each };
+}
+
+// The parts of a card, of which the first begins on this line, and the position behind them.
+fn read_all<P: Part>(
+    s: &[u8],
+    at: usize,
+    transitions: usize,
+    count: usize,
+    first: usize,
+) -> Result<([P; 64], usize), Refusal>
+    requires few { count ≤ 64 }
+    requires early { first ≤ 5 }
+    ensures { result ≡ (times count 64 P.NONE (P.form transitions)).read s.now at first }
 {
-    for i in 0..count {
-        put_one_firing(w, firings[i]);
+    let mut parts = [P::NONE; 64];
+    let mut next = at;
+    for (i, slot) in parts[..count].iter_mut().enumerate() {
+        let (part, behind) = P::read(s, next, transitions, first + P::LINES * i)?;
+        *slot = part;
+        next = behind;
+    }
+    Ok((parts, next))
+}
+
+// The parts of a card, of which the first begins on this line, as their lines would be checked.
+fn check_all<P: Part>(parts: &[P], transitions: usize, first: usize) -> Result<(), Refusal>
+    requires few { length parts.now ≤ 64 }
+    requires early { first ≤ 5 }
+    ensures { result ≡ checks (P.form transitions) parts.now first }
+{
+    for (i, part) in parts.iter().enumerate() {
+        part.check(transitions, first + P::LINES * i)?;
+    }
+    Ok(())
+}
+
+// The lines of the parts of a card.
+fn put_all<P: Part>(w: &mut Writer, parts: &[P])
+    ensures { Writes w.old (texts (P.form 0) parts.now) w.new }
+{
+    for part in parts {
+        part.put(w);
     }
 }
 
-// The lines of a run, wherever the writer stands.
-pub fn put_run_lines(w: &mut Writer, run: Run)
-    ensures { Writes w.old ((run_card 0 0).text run) w.new }
+// The lines of a run card behind its sheet.
+fn run_on_sheet(
+    s: &[u8],
+    at: usize,
+    sheet: u32,
+    transitions: usize,
+) -> Result<(Run, usize), Refusal>
+    ensures { result ≡ run_on sheet ((run_lines transitions).read s.now at 2) }
 {
-    form::put_number_line(w, b"sheet=", run.sheet as u64);
-    put_memory_line(w, run.memory);
-    form::put_number_line(w, b"denominator=", run.denominator as u64);
-    form::put_number_line(w, b"firings=", run.count as u64);
-    put_all_firings(w, run.firings, run.count.min(64));
-    form::put_number_line(w, b"rest=", run.rest as u64);
+    let (memory, at_denominator) = memory_line(s, at, 2)?;
+    let (denominator, at_count) = form::number_line(
+        s,
+        at_denominator,
+        b"denominator=",
+        Range(1, 1000),
+        3,
+    )?;
+    let (count, at_firings) = form::number_line(s, at_count, b"firings=", Range(0, 64), 4)?;
+    let count = count as usize;
+    let (firings, at_rest) = read_all(s, at_firings, transitions, count, 5)?;
+    let (rest, end) = form::number_line(s, at_rest, b"rest=", Range(0, 10000000), 5 + 2 * count)?;
+    let run = Run {
+        sheet,
+        memory,
+        denominator,
+        count,
+        firings,
+        rest,
+    };
+    Ok((run, end))
 }
 
-// The card of a run at the front of an output, as far as it fits, and how many bytes it has where it does.
-pub fn put_run(out: &mut [u8], run: Run) -> usize
-    ensures { Puts out.old 0 ((run_card 0 0).text run) result out.new }
+// The lines of an order card behind its sheet.
+fn order_on_sheet(
+    s: &[u8],
+    at: usize,
+    sheet: u32,
+    transitions: usize,
+) -> Result<(Order, usize), Refusal>
+    ensures { result ≡ order_on sheet ((order_lines transitions).read s.now at 2) }
 {
-    let mut w = Writer::new(out);
-    put_run_lines(&mut w, run);
-    w.at
+    let (memory, at_count) = memory_line(s, at, 2)?;
+    let (count, at_fires) = form::number_line(s, at_count, b"firings=", Range(0, 64), 3)?;
+    let count = count as usize;
+    let (fires, next) = read_all(s, at_fires, transitions, count, 4)?;
+    let order = Order {
+        sheet,
+        memory,
+        count,
+        fires,
+    };
+    Ok((order, next))
 }
 
-// The lines `fire` of an order.
-fn put_all_fires(w: &mut Writer, fires: [u32; 64], count: usize)
-    requires { count ≤ 64 }
-    ensures { Writes w.old ((exactly count 64 0 (fire 0)).text fires) w.new }
-{
-    for i in 0..count {
-        form::put_number_line(w, b"fire=", fires[i] as u64);
+// A card that stands behind the card of its net: on the net's sheet, of its transitions.
+pub trait Card: Copy {
+    // Its form, on a sheet and of so many transitions.
+    ghost form: { ℕ → ℕ → Form Self };
+
+    // Reads the card at the front of an input: the value, and the position behind the card.
+    fn front(s: &[u8], own: u32, transitions: usize) -> Result<(Self, usize), Refusal>
+        ensures { result ≡ front (form own transitions) s.now };
+
+    // How many lines the card has.
+    fn lines(self) -> usize
+        ensures few { result ≤ 133 }
+        ensures value { (own n : ℕ) → result ≡ (form own n).lines self };
+
+    // Checks the value, as its card would be checked.
+    fn check_lines(self, own: u32, transitions: usize) -> Result<(), Refusal>
+        ensures { result ≡ (form own transitions).check self 1 };
+
+    // Writes the card, wherever the writer stands.
+    fn put_lines(self, w: &mut Writer)
+        ensures { Writes w.old ((form 0 0).text self) w.new };
+
+    // The text of a value is the same for any net.
+    ghost same_text: { (own n : ℕ) (a : Self) → (form 0 0).text a ≡ (form own n).text a };
+
+    // The card of a value that passes its check, for 32 transitions at most, has 2,048 bytes at most.
+    ghost short: { (own n : ℕ) (a : Self) → n ≤ 32 → (form own n).check a 1 ≡ Passed → length ((form own n).text a) ≤ 2048 };
+}
+
+impl Card for Run {
+    ghost form = { run_card };
+
+    fn front(s: &[u8], own: u32, transitions: usize) -> Result<(Run, usize), Refusal> {
+        let (sheet, next) = form::number_line(s, 0, b"sheet=", OwnSheet(own), 1)?;
+        run_on_sheet(s, next, sheet, transitions)
     }
+
+    fn lines(self) -> usize {
+        5 + 2 * self.count.min(64)
+    }
+
+    fn check_lines(self, own: u32, transitions: usize) -> Result<(), Refusal> {
+        OwnSheet(own).check(self.sheet as u64, 1)?;
+        Range(1, 1000).check(self.denominator as u64, 3)?;
+        Range(0, 64).check(self.count as u64, 4)?;
+        check_all(&self.firings[..self.count], transitions, 5)?;
+        Range(0, 10000000).check(self.rest as u64, 5 + 2 * self.count)
+    }
+
+    fn put_lines(self, w: &mut Writer) {
+        form::put_number_line(w, b"sheet=", self.sheet as u64);
+        put_memory_line(w, self.memory);
+        form::put_number_line(w, b"denominator=", self.denominator as u64);
+        form::put_number_line(w, b"firings=", self.count as u64);
+        put_all(w, &self.firings[..self.count.min(64)]);
+        form::put_number_line(w, b"rest=", self.rest as u64);
+    }
+
+    ghost same_text = { run_same_text };
+
+    ghost short = { run_fits };
 }
 
-// The lines of an order.
-fn put_order_lines(w: &mut Writer, order: Order)
-    ensures { Writes w.old ((order_card 0 0).text order) w.new }
+impl Card for Order {
+    ghost form = { order_card };
+
+    fn front(s: &[u8], own: u32, transitions: usize) -> Result<(Order, usize), Refusal> {
+        let (sheet, next) = form::number_line(s, 0, b"sheet=", OwnSheet(own), 1)?;
+        order_on_sheet(s, next, sheet, transitions)
+    }
+
+    fn lines(self) -> usize {
+        3 + self.count.min(64)
+    }
+
+    fn check_lines(self, own: u32, transitions: usize) -> Result<(), Refusal> {
+        OwnSheet(own).check(self.sheet as u64, 1)?;
+        Range(0, 64).check(self.count as u64, 3)?;
+        check_all(&self.fires[..self.count], transitions, 4)
+    }
+
+    fn put_lines(self, w: &mut Writer) {
+        form::put_number_line(w, b"sheet=", self.sheet as u64);
+        put_memory_line(w, self.memory);
+        form::put_number_line(w, b"firings=", self.count as u64);
+        put_all(w, &self.fires[..self.count.min(64)]);
+    }
+
+    ghost same_text = { order_same_text };
+
+    ghost short = { order_fits };
+}
+
+// Reads an input that is one card, behind which nothing may follow.
+pub fn whole<C: Card>(s: &[u8], own: u32, transitions: usize) -> Result<(C, usize), Refusal>
+    ensures { result ≡ alone (C.form own transitions) s.now }
 {
-    form::put_number_line(w, b"sheet=", order.sheet as u64);
-    put_memory_line(w, order.memory);
-    form::put_number_line(w, b"firings=", order.count as u64);
-    put_all_fires(w, order.fires, order.count.min(64));
+    let (card, end) = C::front(s, own, transitions)?;
+    if end < s.len() {
+        return Err(Refusal::Malformed(1 + card.lines()));
+    }
+    Ok((card, end))
 }
 
-// The card of an order at the front of an output, likewise.
-fn put_order(out: &mut [u8], order: Order) -> usize
-    ensures { Puts out.old 0 ((order_card 0 0).text order) result out.new }
+// Reads a card of a net: the net is checked first.
+pub fn read<C: Card>(net: Net, s: &[u8]) -> Result<(C, usize), Refusal>
+    ensures { result ≡ read_card C.form net s.now }
+{
+    net_card::check_net(net)?;
+    whole(s, net.sheet, net.transitions)
+}
+
+// Checks a net and what has a card of it, both handed over as values, as their cards would be.
+pub fn check<C: Card>(net: Net, card: C) -> Result<(), Refusal>
+    ensures { result ≡ card_checked C.form net card }
+{
+    net_card::check_net(net)?;
+    card.check_lines(net.sheet, net.transitions)
+}
+
+// The card of a value at the front of an output, as far as it fits, and how many bytes it has where it does.
+pub fn put<C: Card>(out: &mut [u8], card: C) -> usize
+    ensures { Puts out.old 0 ((C.form 0 0).text card) result out.new }
 {
     let mut w = Writer::new(out);
-    put_order_lines(&mut w, order);
+    card.put_lines(&mut w);
     w.at
 }
 
-// Reads a run card of a net: the net is checked first.
-pub fn read_run(net: Net, s: &[u8]) -> Result<(Run, usize), Refusal>
-    ensures { result ≡ read_run net s.now }
+// Writes the card of a value of a net, both of which pass their checks.
+pub fn write<C: Card>(net: Net, card: C, out: &mut [u8]) -> Result<usize, Refusal>
+    ensures { Responded (card_text C.form net card) out.old result out.new }
 {
-    net_card::check_net(net)?;
-    run_card(s, net.sheet, net.transitions)
+    check(net, card)?;
+    let mut text = [0u8; 2048];
+    let n = put(&mut text, card);
+    reply::respond(&text[..n], out)
 }
 
-// Reads an order card of a net: the net is checked first.
-pub fn read_order(net: Net, s: &[u8]) -> Result<(Order, usize), Refusal>
-    ensures { result ≡ read_order net s.now }
-{
-    net_card::check_net(net)?;
-    order_card(s, net.sheet, net.transitions)
-}
-
-// Checks a run of a net, both handed over as values, as their cards would be.
-pub fn check_run(net: Net, run: Run) -> Result<(), Refusal>
-    ensures { result ≡ run_checked net run }
-{
-    net_card::check_net(net)?;
-    check_run_lines(run, net.sheet, net.transitions)
-}
-
-// Checks an order of a net, both handed over as values, as their cards would be.
-pub fn check_order(net: Net, order: Order) -> Result<(), Refusal>
-    ensures { result ≡ order_checked net order }
-{
-    net_card::check_net(net)?;
-    check_order_lines(order, net.sheet, net.transitions)
-}
-
-// Writes the card of a run of a net, both of which pass their checks. The longest card has fewer than 2,048 bytes.
-pub fn write_run(net: Net, run: Run, out: &mut [u8]) -> Result<usize, Refusal>
-    ensures { Responded (run_text net run) out.old result out.new }
-{
-    check_run(net, run)?;
-    let mut card = [0u8; 2048];
-    let n = put_run(&mut card, run);
-    reply::respond(&card[..n], out)
-}
-
-// Writes the card of an order of a net, both of which pass their checks. The longest card has fewer than 1,024 bytes.
-pub fn write_order(net: Net, order: Order, out: &mut [u8]) -> Result<usize, Refusal>
-    ensures { Responded (order_text net order) out.old result out.new }
-{
-    check_order(net, order)?;
-    let mut card = [0u8; 1024];
-    let n = put_order(&mut card, order);
-    reply::respond(&card[..n], out)
-}
-
-// Reads a net card and, right behind it, the card of a run of that net.
-pub fn net_and_run(input: &[u8]) -> Result<(Net, Run), Refusal>
-    ensures { result ≡ value_read (run_cards input.now) }
+// Reads a net card and, right behind it, a card of that net.
+pub fn net_and<C: Card>(input: &[u8]) -> Result<(Net, C), Refusal>
+    ensures { result ≡ value_read (both_cards C.form input.now) }
 {
     let (net, next) = net_card::read_net(input)?;
-    let (run, _) = run_card(net_card::remainder(input, next), net.sheet, net.transitions)?;
-    Ok((net, run))
-}
-
-// Reads a net card and, right behind it, the card of an order of that net.
-pub fn net_and_order(input: &[u8]) -> Result<(Net, Order), Refusal>
-    ensures { result ≡ value_read (order_cards input.now) }
-{
-    let (net, next) = net_card::read_net(input)?;
-    let (order, _) = order_card(net_card::remainder(input, next), net.sheet, net.transitions)?;
-    Ok((net, order))
+    let (card, _) = whole(net_card::remainder(input, next), net.sheet, net.transitions)?;
+    Ok((net, card))
 }

@@ -7,37 +7,23 @@ ghost use Rattle.schedule.specs.Collect.{collected};
 ghost use Rattle.schedule.specs.Timetable.{gap_of, timed_run, timetabled};
 
 use firing::Attempt;
-use net::{Net, Transition};
+use net::{NO_TRANSITION, Net};
 use reply::Refusal;
-use run::{Firing, Order, Run};
+use run::{Firing, NO_FIRING, Order, Run};
 use steps::Terms;
 use timing::Window;
-
-// An interval that every clock is within.
-const FREE: Transition = Transition {
-    earliest: 0,
-    latest: None,
-};
 
 // What stands for a window that is none.
 const NO_WINDOW: Window = Window {
     origin: 0,
-    interval: FREE,
+    interval: NO_TRANSITION,
 };
-
-// What stands for a firing that is none.
-const NO_FIRING: Firing = Firing { wait: 0, fire: 0 };
 
 // What the tokens say of an order, and the window of each firing. Instants count firings, and every clock is in time.
 fn collect(net: Net, order: Order) -> Result<[Window; 64], Refusal>
     ensures { result ≡ collected net order }
 {
-    let terms = Terms {
-        places: net.places,
-        transitions: net.transitions,
-        memory: order.memory,
-        denominator: 1,
-    };
+    let terms = Terms::of(&net, order.memory, 1);
     let count = order.count.min(64);
     let mut windows = [NO_WINDOW; 64];
     let mut marking = steps::start_marking(net.start, net.places);
@@ -54,18 +40,11 @@ fn collect(net: Net, order: Order) -> Result<[Window; 64], Refusal>
         let number = i + 1;
         let attempt = Attempt {
             t,
-            interval: FREE,
+            interval: NO_TRANSITION,
             instant: number as u64,
             number,
         };
-        steps::step(
-            &net.take,
-            &net.give,
-            terms,
-            attempt,
-            &mut marking,
-            &mut since,
-        )?;
+        steps::step(terms, attempt, &mut marking, &mut since)?;
     }
     Ok(windows)
 }

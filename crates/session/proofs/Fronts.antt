@@ -6,6 +6,7 @@ use mathlib.Core.Path.{◌≡◌, refl, ap, ◌∙◌}
 use mathlib.Core.List.{List, ◌++◌}
 use lib.ListN.{length, drop}
 use borrow.Author.Tests.{le-ltb}
+use Rattle.std.specs.Prelude.{Option, Some, None}
 use Rattle.laws.specs.Writing.{Puts, wrote_puts}
 use Rattle.reply.specs.declared.Refusal.TheVariants.{Malformed}
 use Rattle.reply.specs.Respond.{Outcome, answer, refusal, reply_to, output_of, Responded, Reply}
@@ -15,7 +16,7 @@ use Rattle.open_run.specs.declared.Closing.{Closing}
 use Rattle.open_run.specs.Open.{left_by, wait_of, fire_of, close_of, closing, state_of, timetable_now}
 use Rattle.console.specs.Printed.{refusal_text}
 use Rattle.session.specs.declared.Entry.{Entry}
-use Rattle.session.specs.declared.Entry.TheVariants.{Wait, Fire, Rest, State, Timetable, NoEntry}
+use Rattle.session.specs.declared.Entry.TheVariants.{Wait, Fire, Rest, State, Timetable}
 use Rattle.session.specs.declared.Answered.{Answered}
 use Rattle.session.specs.Session.{entry_of, told_text, shown_text, entry_text, closed_by, entry_leaves, line_text, line_leaves}
 use Rattle.session.specs.Code.{shown_length, shown_output}
@@ -54,7 +55,7 @@ module _ (r : OpenRun) (n : ℕ) (s out : List ℕ) where
       (a ≡ record { length = length (line_text r n s); run = line_leaves r s })
       × (after ≡ line_text r n s ++ drop (length (line_text r n s)) out)
 
-  answers : {entry : Entry} {text : List ℕ} {left : OpenRun} {a : Answered} {after : List ℕ} → entry_of s ≡ entry → text ≡ entry_text r n entry
+  answers : {entry : Option Entry} {text : List ℕ} {left : OpenRun} {a : Answered} {after : List ℕ} → entry_of s ≡ entry → text ≡ entry_text r n entry
       → left ≡ entry_leaves r entry → a ≡ record { length = length text; run = left } → after ≡ text ++ drop (length text) out → Line a after
   answers e p q h k = rw (e, ← p, ← q) (h, k)
 
@@ -64,20 +65,20 @@ module _ (r : OpenRun) (n : ℕ) (s out : List ℕ) where
       (a ≡ record { length = length (told_text e.checked); run = e.run })
       × (after ≡ told_text e.checked ++ drop (length (told_text e.checked)) out)
 
-  pub wait_line : {w : ℕ} {e : Entered} {a : Answered} {after : List ℕ} → entry_of s ≡ Wait w → e ≡ wait_of r w → Told e a after → Line a after
+  pub wait_line : {w : ℕ} {e : Entered} {a : Answered} {after : List ℕ} → entry_of s ≡ Some (Wait w) → e ≡ wait_of r w → Told e a after → Line a after
   wait_line q p t = answers q (ap (λ (x : Entered). told_text x.checked) p) (ap (λ (x : Entered). x.run) p) t.0 t.1
 
-  pub fire_line : {w : ℕ} {e : Entered} {a : Answered} {after : List ℕ} → entry_of s ≡ Fire w → e ≡ fire_of r w → Told e a after → Line a after
+  pub fire_line : {w : ℕ} {e : Entered} {a : Answered} {after : List ℕ} → entry_of s ≡ Some (Fire w) → e ≡ fire_of r w → Told e a after → Line a after
   fire_line q p t = answers q (ap (λ (x : Entered). told_text x.checked) p) (ap (λ (x : Entered). x.run) p) t.0 t.1
 
   -- no entry
-  pub no_line : {k : ℕ} {after : List ℕ} → entry_of s ≡ NoEntry → AtFront (refusal_text (Malformed n)) out k after
+  pub no_line : {k : ℕ} {after : List ℕ} → entry_of s ≡ None → AtFront (refusal_text (Malformed n)) out k after
       → Line (record { length = k; run = r }) after
   no_line q h = answers q refl refl (as_answered r h.0) h.1
 
   -- the closing and the calls
   module _ (room : length out ≡ 2048) where
-    shown : {entry : Entry} {left : OpenRun} {reply : Reply} {mid : List ℕ} {a : Answered} {after : List ℕ} (o : Outcome) → Short o → entry_of s ≡ entry
+    shown : {entry : Option Entry} {left : OpenRun} {reply : Reply} {mid : List ℕ} {a : Answered} {after : List ℕ} (o : Outcome) → Short o → entry_of s ≡ entry
         → shown_text o ≡ entry_text r n entry → left ≡ entry_leaves r entry → Responded o out reply mid
         → (a ≡ record { length = shown_length reply; run = left }) × (after ≡ shown_output reply mid) → Line a after
     shown {left = left} {mid = mid} o short q p e d t =
@@ -86,17 +87,17 @@ module _ (r : OpenRun) (n : ℕ) (s out : List ℕ) where
         (t.0 ∙ as_answered left (ap shown_length d.reply ∙ f.0))
         (t.1 ∙ ap (λ (x : Reply). shown_output x mid) d.reply ∙ ap (λ (x : List ℕ). shown_output (reply_to o out) x) d.output ∙ f.1)
 
-    pub close_line : {w : ℕ} {c : Closing} {mid : List ℕ} {a : Answered} {after : List ℕ} → entry_of s ≡ Rest w
+    pub close_line : {w : ℕ} {c : Closing} {mid : List ℕ} {a : Answered} {after : List ℕ} → entry_of s ≡ Some (Rest w)
         → (c ≡ closing r w out) × (mid ≡ output_of (close_of r w) out)
         → (a ≡ record { length = shown_length c.reply; run = c.run }) × (after ≡ shown_output c.reply mid) → Line a after
     close_line {w} q d t =
         shown (close_of r w) (close_short r w) q refl (ap (λ (x : Closing). x.run) d.0 ∙ left_closed out room (close_of r w) (close_short r w) r)
         (record { reply = ap (λ (x : Closing). x.reply) d.0; output = d.1 }) t
 
-    pub state_line : {reply : Reply} {mid : List ℕ} {a : Answered} {after : List ℕ} → entry_of s ≡ State → Responded (state_of r) out reply mid
+    pub state_line : {reply : Reply} {mid : List ℕ} {a : Answered} {after : List ℕ} → entry_of s ≡ Some State → Responded (state_of r) out reply mid
         → (a ≡ record { length = shown_length reply; run = r }) × (after ≡ shown_output reply mid) → Line a after
     state_line q d t = shown (state_of r) (state_short r) q refl refl d t
 
-    pub timetable_line : {reply : Reply} {mid : List ℕ} {a : Answered} {after : List ℕ} → entry_of s ≡ Timetable → Responded (timetable_now r) out reply mid
+    pub timetable_line : {reply : Reply} {mid : List ℕ} {a : Answered} {after : List ℕ} → entry_of s ≡ Some Timetable → Responded (timetable_now r) out reply mid
         → (a ≡ record { length = shown_length reply; run = r }) × (after ≡ shown_output reply mid) → Line a after
     timetable_line q d t = shown (timetable_now r) (timetable_short r) q refl refl d t

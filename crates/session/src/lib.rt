@@ -8,11 +8,12 @@ ghost use Rattle.console.specs.Printed.{refusal_text};
 ghost use Rattle.session.specs.Session.{number_behind, entry_of, told_text, line_text, line_leaves};
 ghost use Rattle.session.specs.Code.{shown_length, shown_output};
 
+use form::Range;
 use open_run::{Entered, OpenRun};
 use reply::Refusal;
 use text::Writer;
 
-// What a line asks for: a step, the closing, a call, or nothing that there is.
+// What a line asks for: a step, the closing or a call. They are a closed set: what is done for each is a match, which must have all of them.
 #[derive(Clone, Copy)]
 pub enum Entry {
     Wait(u32),
@@ -20,7 +21,6 @@ pub enum Entry {
     Rest(u32),
     State,
     Timetable,
-    NoEntry,
 }
 
 // How many bytes the answer to a line has, and the record behind it.
@@ -34,7 +34,7 @@ pub struct Answered {
 fn number_behind(line: &[u8], key: &[u8]) -> Result<(u32, usize), Refusal>
     ensures { result ≡ number_behind key.now line.now }
 {
-    let (value, next) = form::number_line(line, 0, key, 0, 999999999, 1)?;
+    let (value, next) = form::number_line(line, 0, key, Range(0, 999999999), 1)?;
     if next < line.len() {
         return Err(Refusal::Malformed(2));
     }
@@ -45,32 +45,29 @@ fn number_behind(line: &[u8], key: &[u8]) -> Result<(u32, usize), Refusal>
 fn is_word(line: &[u8], word: &[u8]) -> bool
     ensures { result ≡ same_numbers line.now word.now }
 {
-    if line.len() != word.len() {
-        return false;
-    }
-    text::begins_at(line, 0, word)
+    line == word
 }
 
-// Reads a line, its byte 10 included.
-pub fn read_entry(line: &[u8]) -> Entry
+// Reads a line, its byte 10 included; it may ask for nothing that there is.
+pub fn read_entry(line: &[u8]) -> Option<Entry>
     ensures { result ≡ entry_of line.now }
 {
     if let Ok((parts, _)) = number_behind(line, b"wait=") {
-        return Entry::Wait(parts);
+        return Some(Entry::Wait(parts));
     }
     if let Ok((t, _)) = number_behind(line, b"fire=") {
-        return Entry::Fire(t);
+        return Some(Entry::Fire(t));
     }
     if let Ok((parts, _)) = number_behind(line, b"rest=") {
-        return Entry::Rest(parts);
+        return Some(Entry::Rest(parts));
     }
     if is_word(line, b"state\n") {
-        return Entry::State;
+        return Some(Entry::State);
     }
     if is_word(line, b"timetable\n") {
-        return Entry::Timetable;
+        return Some(Entry::Timetable);
     }
-    Entry::NoEntry
+    None
 }
 
 // A refusal as the answer to a line.
@@ -80,7 +77,7 @@ fn put_refused(e: Refusal, out: &mut [u8; 2048]) -> usize
     console::refusal_front(out, e)
 }
 
-// A word at the front of an output, and how many bytes it has.
+// A word at the front of an output, and how many bytes it has, as `console::refusal_front` does.
 fn put_word(out: &mut [u8], word: &[u8]) -> usize
     ensures { Puts out.old 0 word.now result out.new }
 {
@@ -126,7 +123,10 @@ pub fn answer_line(run: OpenRun, n: usize, line: &[u8], out: &mut [u8; 2048]) ->
     ensures { (result ≡ record { length = length (line_text run n line.now); run = line_leaves run line.now })
         × (out.new ≡ line_text run n line.now ++ drop (length (line_text run n line.now)) out.old) }
 {
-    let entry = read_entry(line);
+    let Some(entry) = read_entry(line) else {
+        let length = put_refused(Refusal::Malformed(n), out);
+        return Answered { length, run };
+    };
     match entry {
         Entry::Wait(w) => {
             let e = entering::enter_wait(run, w);
@@ -147,10 +147,6 @@ pub fn answer_line(run: OpenRun, n: usize, line: &[u8], out: &mut [u8; 2048]) ->
         Entry::Timetable => {
             let r = entering::timetable(run, out);
             shown(r, run, out)
-        }
-        Entry::NoEntry => {
-            let length = put_refused(Refusal::Malformed(n), out);
-            Answered { length, run }
         }
     }
 }

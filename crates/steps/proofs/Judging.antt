@@ -15,20 +15,20 @@ use Rattle.steps.specs.Code.{arcs_in, moved, renewed_by}
 use Rattle.steps.proofs.Places.{moved_none, moved_some}
 use Rattle.steps.proofs.Restarts.{renewed_is}
 
-module _ (terms : Terms) (take give : List ℕ) (f : Attempt) (m since : List ℕ)
-    (s : Takes) (w : s.weights.now ≡ take) (p : s.places ≡ min terms.places 16) (n : s.transitions ≡ min terms.transitions 32) where
+module _ (terms : Terms) (f : Attempt) (m since : List ℕ)
+    (s : Takes) (w : s.weights.now ≡ terms.take.now) (p : s.places ≡ min terms.places 16) (n : s.transitions ≡ min terms.transitions 32) where
   -- the net, and the same as the code sees it
   abbrev net : Arcs
-  net = arcs_in terms take give
+  net = arcs_in terms
 
   abbrev seen : Arcs
-  seen = record { places = s.places; transitions = s.transitions; take = s.weights.now; give = give }
+  seen = record { places = s.places; transitions = s.transitions; take = s.weights.now; give = terms.give.now }
 
   same : seen ≡ net
   same =
-      ap (λ (x : List ℕ). record { places = s.places; transitions = s.transitions; take = x; give = give }) w
-      ∙ ap (λ (x : ℕ). record { places = x; transitions = s.transitions; take = take; give = give }) p
-      ∙ ap (λ (x : ℕ). record { places = min terms.places 16; transitions = x; take = take; give = give }) n
+      ap (λ (x : List ℕ). record { places = s.places; transitions = s.transitions; take = x; give = terms.give.now }) w
+      ∙ ap (λ (x : ℕ). record { places = x; transitions = s.transitions; take = terms.take.now; give = terms.give.now }) p
+      ∙ ap (λ (x : ℕ). record { places = min terms.places 16; transitions = x; take = terms.take.now; give = terms.give.now }) n
 
   -- what the step says, a refusal, and the clock
   abbrev says : Stepped → Type 0

@@ -8,8 +8,8 @@ use Rattle.steps.specs.declared.Terms.{Terms}
 use Rattle.steps.specs.declared.Moved.{Moved}
 
 -- the net of a step: the counts of its terms, within the arrays, and the weights
-abbrev pub arcs_in : Terms → List ℕ → List ℕ → Arcs
-arcs_in terms take give = record { places = min terms.places 16; transitions = min terms.transitions 32; take = take; give = give }
+abbrev pub arcs_in : Terms → Arcs
+arcs_in terms = record { places = min terms.places 16; transitions = min terms.transitions 32; take = terms.take.now; give = terms.give.now }
 
 -- the tokens of an enabled transition moved, if no place passes 255
 unfoldable pub moved : Arcs → List ℕ → ℕ → Option Moved

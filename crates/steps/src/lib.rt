@@ -11,18 +11,37 @@ ghost use Rattle.firing.specs.Step.{stepped};
 ghost use Rattle.steps.specs.Code.{arcs_in, moved, short, restarted, renewed_by};
 
 use firing::{Attempt, Played, State};
-use net::{Net, Transition};
+use net::{NO_TRANSITION, Net, Transition};
 use reply::Refusal;
 use run::{Memory, Run};
 use std::array;
 
-// What a step goes by beside the weights: the counts of a net, the memory word, and the parts of a tick.
+// What a step goes by: what the transitions of a net take and give, the net's counts, the memory word, and the parts of a tick. The marking and its clocks are
+// lent beside it, since not every caller has an instant with them.
 #[derive(Clone, Copy)]
-pub struct Terms {
+pub struct Terms<'a> {
+    pub take: &'a [u8; 512],
+    pub give: &'a [u8; 512],
     pub places: usize,
     pub transitions: usize,
     pub memory: Memory,
     pub denominator: u32,
+}
+
+impl<'a> Terms<'a> {
+    // On a net, under a memory word, with so many parts to a tick.
+    pub fn of(net: &'a Net, memory: Memory, denominator: u32) -> Terms<'a>
+        ensures { (arcs_in result ≡ arcs_of net.now) × (result.memory ≡ memory) × (result.denominator ≡ denominator) }
+    {
+        Terms {
+            take: &net.take,
+            give: &net.give,
+            places: net.places,
+            transitions: net.transitions,
+            memory,
+            denominator,
+        }
+    }
 }
 
 // What the transitions of a net take, and the counts of the net, which are within the array.
@@ -52,12 +71,6 @@ struct Moved {
     middle: [u8; 16],
     later: [u8; 16],
 }
-
-// What stands for a transition that is none.
-const NO_TRANSITION: Transition = Transition {
-    earliest: 0,
-    latest: None,
-};
 
 impl<'a> Takes<'a> {
     // What is taken in a net whose counts may be too large.
@@ -229,19 +242,17 @@ fn restarts_fired(memory: Memory) -> bool
 
 // A firing judged and, if it is allowed, fired. A refused firing changes nothing.
 pub fn step(
-    take: &[u8; 512],
-    give: &[u8; 512],
     terms: Terms,
     f: Attempt,
     marking: &mut [u8; 16],
     since: &mut [u64; 32],
 ) -> Result<(), Refusal>
     ensures { record { checked = result; marking = marking.new; since = since.new }
-        ≡ (let a = arcs_in terms take.now give.now in
-        stepped a (rule_of a terms.memory) terms.denominator f marking.old since.old) }
+        ≡ (let a = arcs_in terms.entry in
+        stepped a (rule_of a terms.entry.memory) terms.entry.denominator f marking.old since.old) }
 {
     let t = f.t;
-    let takes = Takes::within(take, terms.places, terms.transitions);
+    let takes = Takes::within(terms.take, terms.places, terms.transitions);
     if !takes.is_enabled(marking, t) {
         return Err(Refusal::NotEnabled(f.number));
     }
@@ -250,7 +261,7 @@ pub fn step(
     }
     let fire = Fire {
         takes,
-        give,
+        give: terms.give,
         memory: terms.memory,
         t,
         instant: f.instant,
@@ -278,12 +289,7 @@ pub fn start_marking(start: [u8; 16], places: usize) -> [u8; 16]
 pub fn play(net: Net, run: Run) -> Played
     ensures { result ≡ play net (rule_of (arcs_of net) run.memory) run.denominator (firings_of run) (start_state net) 0 }
 {
-    let terms = Terms {
-        places: net.places,
-        transitions: net.transitions,
-        memory: run.memory,
-        denominator: run.denominator,
-    };
+    let terms = Terms::of(&net, run.memory, run.denominator);
     let count = run.count.min(64);
     let mut state = State {
         marking: start_marking(net.start, net.places),
@@ -299,14 +305,7 @@ pub fn play(net: Net, run: Run) -> Played
             instant,
             number: i + 1,
         };
-        let checked = step(
-            &net.take,
-            &net.give,
-            terms,
-            attempt,
-            &mut state.marking,
-            &mut state.since,
-        );
+        let checked = step(terms, attempt, &mut state.marking, &mut state.since);
         let Ok(()) = checked else {
             return Played { checked, state };
         };

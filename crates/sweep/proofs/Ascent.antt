@@ -1,34 +1,35 @@
 -- A turn of a sweep forward keeps what the sweep is to leave: a firing rises above earlier ones, which have had their turns.
 use Prim.Native.Nat.{ℕ, suc, ◌+◌, ◌*◌, ◌≤◌, ◌<◌, ◌^◌, min, max}
-use mathlib.Core.Path.{◌≡◌, refl, ◌∙◌, subst, subst⁻¹}
+use mathlib.Core.Path.{◌≡◌, refl, ap, ◌∙◌, subst, subst⁻¹}
 use mathlib.Core.List.{List}
 use mathlib.Core.Logic.{◌⊎◌, inl, inr, ⊎_elim}
-use lib.ListN.{length, set, length-set}
+use lib.ListN.{length, get_or, set, length-set}
 use native.Mathlib.Nat.{le_refl, le_trans}
 use native.Mathlib.Numerals.{add-one}
 use native.Mathlib.Omega.{arith}
 use Rattle.laws.specs.Sums.{le_or_lt}
 use Rattle.timing.specs.Solve.{instant_at}
 use Rattle.timing.specs.Timing.{Win, Under}
-use Rattle.sweep.specs.Sweeps.{Follows, Forward}
+use Rattle.sweep.specs.Sweeps.{Follows, Ahead, Forward, Reaching}
 use Rattle.sweep.proofs.Raising.{raised_there, raised_kept, raised_up, raised_under}
 
--- a sweep forward that stands at i, where the instant is `now`; the firings of the windows below `first` have not moved
-pub record Climbing (W : ℕ → Win) (from k : ℕ) (x₀ : List ℕ) (first last now i : ℕ) (x : List ℕ) : Type 0 where
+-- a sweep forward that stands at i, where the instant is `now`; the firings of the windows below `first` have not moved, and it ends at `until`
+pub record Climbing (W : ℕ → Win) (from k : ℕ) (x₀ : List ℕ) (first last until now i : ℕ) (x : List ℕ) : Type 0 where
   pub swept : Forward W from k x₀ last i x
+  pub ahead : Ahead W k until x
   pub here : now ≡ instant_at x i
   pub few : first ≤ k
   pub ordered : 0 < last → first < last
   pub same : (j : ℕ) → j < first → instant_at x (suc j) ≡ instant_at x₀ (suc j)
 
-module _ {W : ℕ → Win} {from k : ℕ} {x₀ : List ℕ} {first last now i : ℕ} {x : List ℕ}
-    (a : Climbing W from k x₀ first last now i x) where
+module _ {W : ℕ → Win} {from k : ℕ} {x₀ : List ℕ} {first last until now i : ℕ} {x : List ℕ}
+    (a : Climbing W from k x₀ first last until now i x) where
   f : Forward W from k x₀ last i x
   f = a.swept
 
   module _ (l : i < k) (t : ℕ) (e : t ≡ max now (instant_at x (W i).origin + (W i).low)) where
     -- the firing after i is not before t
-    pub forth_passed : t ≤ instant_at x (i + 1) → Climbing W from k x₀ first last (instant_at x (i + 1)) (i + 1) x
+    pub forth_passed : t ≤ instant_at x (i + 1) → Climbing W from k x₀ first last until (instant_at x (i + 1)) (i + 1) x
     forth_passed h =
         let next : t ≤ instant_at x (suc i) = rw (add-one i) at h in
         record {
@@ -51,6 +52,7 @@ module _ {W : ℕ → Win} {from k : ℕ} {x₀ : List ℕ} {first last now i : 
                 rose = f.rose;
                 small = λ j c. omega (arith, f.small j c);
               };
+          ahead = a.ahead;
           here = refl;
           few = a.few;
           ordered = a.ordered;
@@ -107,8 +109,21 @@ module _ {W : ℕ → Win} {from k : ℕ} {x₀ : List ℕ} {first last now i : 
           (omega (arith, a.here, f.small i (omega arith), f.small (W i).origin (omega (arith, earlier i l)))) (λ n. omega arith) j in
           omega (arith, f.small j h)
 
-      pub forth_raised : (m : ℕ) → m ≡ min first i → Climbing W from k x₀ m (i + 1) t (i + 1) y
-      forth_raised m q =
+      ahead_next : i < until → {reach : List ℕ} → Reaching W k reach → (u : ℕ) → u ≡ max until (get_or reach (i + 1) 0) → Ahead W k u y
+      ahead_next n {reach} r u q =
+          record {
+            within = omega (arith, a.ahead.within, r.within (i + 1));
+            follows = λ j h b.
+                let g = a.ahead.follows j (omega arith) b in
+                let o = others (W j).origin (λ p. omega (arith, r.past j b, ap (λ (n : ℕ). get_or reach n 0) p)) in
+                let this = others j (λ p. omega (arith, r.past j b, ap (λ (n : ℕ). get_or reach n 0) p)) in
+                let next = others (suc j) (λ p. omega arith) in
+                (omega (arith, g.0), omega (arith, g.1));
+          }
+
+      pub forth_raised : i < until → {reach : List ℕ} → Reaching W k reach → (m : ℕ) → m ≡ min first i → (u : ℕ)
+          → u ≡ max until (get_or reach (i + 1) 0) → Climbing W from k x₀ m (i + 1) u t (i + 1) y
+      forth_raised n r m q u p =
           record {
             swept =
                 record {
@@ -123,6 +138,7 @@ module _ {W : ℕ → Win} {from k : ℕ} {x₀ : List ℕ} {first last now i : 
                   rose = λ h. omega (arith, f.up (i + 1), there);
                   small = small_next;
                 };
+            ahead = ahead_next n r u p;
             here = omega (arith, there);
             few = omega (arith, a.few);
             ordered = λ h. omega arith;

@@ -1,18 +1,18 @@
 -- A turn of a sweep backward keeps what the sweep is to leave: a firing raises an earlier one, so no firing that has had its turn moves again. An upper
 -- bound that is met stays so unless its own firing rises, so that the sweep may end above windows that are met.
-use Prim.Native.Nat.{ℕ, suc, ◌+◌, ◌-◌, ◌≤◌, ◌<◌, min}
+use Prim.Native.Nat.{ℕ, suc, ◌+◌, ◌-◌, ◌≤◌, ◌<◌, min, max}
 use mathlib.Core.Path.{◌≡◌, ap, ◌∙◌, subst⁻¹}
 use mathlib.Core.List.{List}
 use mathlib.Core.Logic.{◌⊎◌, inl, inr, ⊎_elim}
-use lib.ListN.{length, set, length-set}
+use lib.ListN.{length, get_or, set, length-set}
 use native.Mathlib.Nat.{le_trans}
 use native.Mathlib.Numerals.{add-one}
 use native.Mathlib.Omega.{arith}
 use Rattle.laws.specs.Sums.{le_or_lt}
 use Rattle.timing.specs.Timing.{Win, Under}
 use Rattle.timing.specs.Solve.{instant_at}
-use Rattle.sweep.specs.Sweeps.{asked, InTime, Backward}
-use Rattle.sweep.proofs.Raising.{raised_there, raised_kept, raised_up, raised_under, asked_mono}
+use Rattle.sweep.specs.Sweeps.{asked, InTime, Backward, Ahead, Reaching}
+use Rattle.sweep.proofs.Raising.{each_index, raised_there, raised_kept, raised_up, raised_under, asked_mono}
 
 -- a sweep backward that stands at i: the windows from i on have had their turn, and those below `stop` are met
 pub record Descending (W : ℕ → Win) (top : ℕ) (x₀ : List ℕ) (from stop i : ℕ) (x : List ℕ) : Type 0 where
@@ -75,6 +75,27 @@ module _ {W : ℕ → Win} {top : ℕ} {x₀ : List ℕ} {from stop i : ℕ} {x 
             let v = b.under S s u in
             raised_under x o t inside less S
             (omega (arith, asked_now, asked_mono (W (i - 1)).high (instant_at x (suc (i - 1))) (S (suc (i - 1))) (v (suc (i - 1))), s (i - 1) last)) v
+
+        -- the windows from u on do not count from o, nor stand right behind it, and follow as before
+        pub back_ahead : {reach : List ℕ} {k until : ℕ} → Reaching W k reach → top ≤ k → Ahead W k until x → (u : ℕ) → u ≡ max until (get_or reach o 0) → Ahead W k u y
+        back_ahead {reach} r few a u q =
+            record {
+              within = omega (arith, a.within, r.within o);
+              follows = λ j n l.
+                  let g = a.follows j (omega arith) l in
+                  let far = r.past (i - 1) (omega (arith, last, few)) in
+                  let from_other = others (W j).origin (λ e. omega (arith, r.past j l, ap (λ (n : ℕ). get_or reach n 0) e)) in
+                  let this = others j (λ e. omega (arith, r.past j l, ap (λ (n : ℕ). get_or reach n 0) e)) in
+                  let next = others (suc j) (λ e. omega (arith, far, before)) in
+                  (omega (arith, g.0), omega (arith, g.1));
+            }
+
+        -- no instant passes a bound that none was past
+        pub back_small : {k most : ℕ} → top ≤ k → t ≤ instant_at x (i - 1 + 1) → ((j : ℕ) → j ≤ k → instant_at x j ≤ most)
+            → (j : ℕ) → j ≤ k → instant_at y j ≤ most
+        back_small {k} {most} few e all =
+            each_index o (λ j. j ≤ k → instant_at y j ≤ most) (λ l. omega (arith, there, all (i - 1 + 1) (omega (arith, b.within, few))))
+            (λ j n l. omega (arith, others j n, all j l))
 
         module _ (m : ℕ) (q : m ≡ min from o) where
           kept_more : (j : ℕ) → (j < m) ⊎ (top ≤ j) → instant_at y j ≡ instant_at x₀ j

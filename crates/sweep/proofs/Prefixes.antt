@@ -4,7 +4,7 @@ use Prim.Native.Nat.{ℕ, suc, ◌+◌, ◌*◌, ◌-◌, ◌≤◌, ◌<◌, �
 use mathlib.Core.Path.{◌≡◌, refl, sym, ap, ◌∙◌, subst, subst⁻¹}
 use mathlib.Core.List.{List, []}
 use mathlib.Core.Logic.{⊎_elim}
-use lib.ListN.{length, set, take, replicate, length-set, length-append, length-replicate, get_or-eq_default}
+use lib.ListN.{length, get_or, set, take, replicate, length-set, length-append, length-replicate, get_or-eq_default}
 use lib.Seq.{get_or-set_same, get_or-set_other, length-take-le, get_or-take, ext_get_or}
 use native.Mathlib.Nat.{le_refl, le_trans, mul-le-mul_left}
 use native.Mathlib.Numerals.{add-one}
@@ -22,9 +22,46 @@ use Rattle.std.specs.Prelude.{Ok, Err, Bool, true, false, cond}
 use Rattle.timing.specs.declared.Window.{Window}
 use Rattle.timing.specs.Windows.{no_window, win_of, windows}
 use Rattle.sweep.specs.Arrays.{Listed, Short, earliest_by}
-use Rattle.sweep.specs.Sweeps.{asked, Follows, InTime, Solved, Entered, Unmet}
+use Rattle.sweep.specs.Sweeps.{asked, Follows, InTime, Reaching, Solved, Entered, Unmet}
 use Rattle.sweep.proofs.Raising.{each_index}
 use Rattle.sweep.proofs.Rounds.{meets_parts, meets_follows, meets_reaches}
+
+-- ---- how far the windows of a firing stand
+
+-- a slot is set to what no slot is over
+module _ (reach : List ℕ) (at t : ℕ) (inside : at < length reach) (most : (n : ℕ) → get_or reach n 0 ≤ t) where
+  slot_there : get_or (set reach at t) at 0 ≡ t
+  slot_there = get_or-set_same reach at t 0 inside
+
+  slot_up : (n : ℕ) → get_or reach n 0 ≤ get_or (set reach at t) n 0
+  slot_up = each_index at (λ n. get_or reach n 0 ≤ get_or (set reach at t) n 0) (omega (arith, slot_there, most at))
+      (λ n d. omega (arith, get_or-set_other reach at n t 0 d))
+
+  slot_most : (n : ℕ) → get_or (set reach at t) n 0 ≤ t
+  slot_most = each_index at (λ n. get_or (set reach at t) n 0 ≤ t) (omega (arith, slot_there)) (λ n d. omega (arith, get_or-set_other reach at n t 0 d, most n))
+
+-- the window i is right behind the firing i, and counts from its origin
+pub reaching_more : {W : ℕ → Win} {i : ℕ} {reach : List ℕ} → Reaching W i reach → i < length reach → (W i).origin < length reach
+    → Reaching W (i + 1) (set (set reach i (i + 1)) (W i).origin (i + 1))
+reaching_more {W} {i} {reach} r here there =
+    let o = (W i).origin in
+    let mid = set reach i (i + 1) in
+    let most : (n : ℕ) → get_or reach n 0 ≤ i + 1 = λ n. omega (arith, r.within n) in
+    let inside : o < length mid = omega (arith, length-set reach i (i + 1)) in
+    let few = slot_most reach i (i + 1) here most in
+    let up : (n : ℕ) → get_or reach n 0 ≤ get_or (set mid o (i + 1)) n 0 =
+    λ n. le_trans (slot_up reach i (i + 1) here most n) (slot_up mid o (i + 1) inside few n) in
+    record {
+      past = λ j l.
+          ⊎_elim
+          (λ h. let p = r.past j h in (omega (arith, p.0, up j), omega (arith, p.1, up (W j).origin)))
+          (λ h.
+          let q : j ≡ i = omega arith in
+          subst⁻¹ (λ (n : ℕ). (n < get_or (set mid o (i + 1)) n 0) × (n < get_or (set mid o (i + 1)) (W n).origin 0)) q
+          (omega (arith, slot_there reach i (i + 1) here most, slot_up mid o (i + 1) inside few i), omega (arith, slot_there mid o (i + 1) inside few)))
+          (le_or_lt (suc j) i);
+      within = slot_most mid o (i + 1) inside few;
+    }
 
 module _ (W : ℕ → Win) where
   pub solved_zero : Solved W 0 (replicate 65 0)
@@ -162,6 +199,9 @@ module _ {ws : List Window} {i : ℕ} {x : List ℕ} (p : Listed ws) (h : i < le
           get_or-set_other x (i + 1) ((W i).origin) t 0 (λ r. omega (arith, wf i (le_refl _))),
         )))
 
+pub reaching_none : (W : ℕ → Win) → Reaching W 0 (replicate 65 0)
+reaching_none W = record { past = λ j l. absurd (omega arith); within = λ o. omega (arith, get_d_padded {A = ℕ} [] 65 0 o) }
+
 -- ---- the first windows of a slice are windows themselves
 
 module _ {V W : ℕ → Win} {k : ℕ} (same : (j : ℕ) → j < k → V j ≡ W j) where
@@ -215,6 +255,16 @@ module _ (ws : List Window) (n : ℕ) (h : n ≤ length ws) where
       record {
         few = omega (arith, p.few, long);
         earlier = λ j l. let e = ap (λ (w : Win). w.origin) (same j (omega (arith, long))) in omega (arith, e, p.earlier j (omega (arith, long)));
+      }
+
+  pub first_reaching : {reach : List ℕ} → Reaching (windows ws) n reach → Reaching (windows (take n ws)) (length (take n ws)) reach
+  first_reaching {reach} r =
+      record {
+        past = λ j l.
+            let p = r.past j (omega (arith, long)) in
+            let e = ap (λ (w : Win). get_or reach w.origin 0) (same j (omega (arith, long))) in
+            (p.0, omega (arith, p.1, e));
+        within = λ o. omega (arith, long, r.within o);
       }
 
   pub first_entered : {x : List ℕ} → Entered (windows ws) n x → Entered (windows (take n ws)) (length (take n ws)) x

@@ -1,5 +1,5 @@
 -- What is raised to t is at most whatever is t or more there. An upper bound is met exactly when the origin is not before what the bound asks.
-use Rattle.std.specs.Prelude.{None, Option, Some}
+use Rattle.std.specs.Prelude.{Option, Some}
 use Prim.Native.Nat.{ℕ, ◌-◌, ◌≤◌, ◌<◌}
 use mathlib.Core.Path.{◌≡◌, refl, subst⁻¹}
 use mathlib.Core.List.{List}
@@ -8,7 +8,7 @@ use lib.ListN.{length, set}
 use lib.Seq.{get_or-set_same, get_or-set_other}
 use native.Mathlib.Decide.{ℕ_discrete}
 use native.Mathlib.Omega.{arith}
-use Rattle.timing.specs.Timing.{Upper, at_most, below, unbounded, Within, Closed, Under}
+use Rattle.timing.specs.Timing.{Upper, at_most, below, unbounded, Within, Under}
 use Rattle.timing.specs.Windows.{upper_of}
 use Rattle.timing.specs.Solve.{instant_at}
 use Rattle.sweep.specs.Sweeps.{asked}
@@ -43,15 +43,5 @@ asked_mono (at_most b) s t h = omega arith
 asked_mono (below b) s t h = omega arith
 asked_mono unbounded s t h = omega arith
 
-pub asked_le : (b : Upper) → Closed b → (t : ℕ) → asked b t ≤ t
-asked_le (at_most b) c t = omega arith
-asked_le (below b) c t = absurd c
-asked_le unbounded c t = omega arith
-
 pub asks_past : {l : Option ℕ} {b : ℕ} → l ≡ Some b → (t : ℕ) → t - b ≡ asked (upper_of l) t
 asks_past e t = rw e refl
-
--- no upper bound of a window is an open one
-pub upper_closed : (latest : Option ℕ) → Closed (upper_of latest)
-upper_closed None = tt
-upper_closed (Some b) = tt

@@ -1,6 +1,6 @@
 -- What a round of sweeps keeps. Where nothing rose, all windows are met, by the least instants; where the start or the last firing rose, they cannot be;
 -- otherwise one more instant is final, so that more rounds than there are instants show that the windows cannot be met.
-use Prim.Native.Nat.{ℕ, suc, ◌*◌, ◌-◌, ◌≤◌, ◌<◌, ◌^◌, max}
+use Prim.Native.Nat.{ℕ, suc, ◌*◌, ◌-◌, ◌≤◌, ◌<◌, ◌^◌}
 use mathlib.Core.Path.{◌≡◌, ap, ◌∙◌}
 use mathlib.Core.List.{List, []}
 use mathlib.Core.Logic.{inl, inr, ⊎_elim}
@@ -10,13 +10,13 @@ use native.Mathlib.Decide.{le_ind}
 use native.Mathlib.Omega.{arith}
 use Rattle.laws.specs.Each.{Each, each_map}
 use Rattle.laws.specs.Sums.{le_or_lt}
-use Rattle.timing.specs.Timing.{AllClosed, Win, Meets, Feasible, Wellformed, Under}
+use Rattle.timing.specs.Timing.{Win, Meets, Feasible, Wellformed, Under}
 use Rattle.timing.specs.Solve.{Edge, instant_at, edges}
 use Rattle.timing.proofs.Pass.{Sat, Fits}
 use Rattle.timing.proofs.Climb.{Start, Near, Step, near_start, nearer, exhausted}
 use Rattle.timing.proofs.Edges.{edges_fit, serves_of, sat_of, meets_of}
 use Rattle.sweep.specs.Sweeps.{asked, Follows, InTime, Backward, Forward, Solved, Entered, Unmet}
-use Rattle.sweep.proofs.Raising.{asked_within, asked_mono, asked_le}
+use Rattle.sweep.proofs.Raising.{asked_within, asked_mono}
 use Rattle.sweep.proofs.Level.{above_unmet, started_unmet}
 
 -- ---- a window, by what a sweep forward and a sweep backward leave of it
@@ -54,7 +54,6 @@ none_left round h = omega arith
 pub record Settling (W : ℕ → Win) (k : ℕ) (x₀ x : List ℕ) (bottom top round : ℕ) : Type 0 where
   pub few : k ≤ 64
   pub earlier : Wellformed W k
-  pub closed : AllClosed W k
   pub entered : Entered W k x₀
   pub below : bottom ≤ top
   pub some : 0 < top
@@ -69,12 +68,11 @@ pub record Settling (W : ℕ → Win) (k : ℕ) (x₀ x : List ℕ) (bottom top 
   pub near : (S : ℕ → ℕ) → Feasible 1 W k S → (round ≤ 64) × Near 64 (edges 1 W k []) (64 - round) x
 
 module _ {W : ℕ → Win} {k : ℕ} where
-  pub settle_start : {x : List ℕ} → k ≤ 64 → Wellformed W k → AllClosed W k → Entered W k x → Settling W k x x (k - 1) k 0
-  settle_start {x} few wf c e =
+  pub settle_start : {x : List ℕ} → k ≤ 64 → Wellformed W k → Entered W k x → Settling W k x x (k - 1) k 0
+  settle_start {x} few wf e =
       record {
         few = few;
         earlier = wf;
-        closed = c;
         entered = e;
         below = omega arith;
         some = e.some;
@@ -92,6 +90,10 @@ module _ {W : ℕ → Win} {k : ℕ} where
   -- more rounds than instants
   pub settle_spent : {x₀ x : List ℕ} {bottom top round : ℕ} → Settling W k x₀ x bottom top round → 65 ≤ round → Unmet W k
   settle_spent s h S f = omega (arith, s.near S f)
+
+  -- no instant is later than the last, which has not moved
+  pub settling_small : {x₀ x : List ℕ} {bottom top round : ℕ} → Settling W k x₀ x bottom top round → (j : ℕ) → j ≤ k → instant_at x j ≤ 64 * 2 ^ 32
+  settling_small {x₀} {x} s j l = omega (arith, rising k (instant_at x) (λ n m. (s.follows n m).0) j l, s.level, s.entered.small)
 
   module _ {x₀ x : List ℕ} {bottom top round : ℕ} (s : Settling W k x₀ x bottom top round)
       {from : ℕ} {z : List ℕ} (b : Backward W top x from 0 z) where
@@ -144,18 +146,6 @@ module _ {W : ℕ → Win} {k : ℕ} where
         let g = s.follows j l in
         let o = b.kept (W j).origin (inl (omega (arith, s.earlier j l))) in
         (omega (arith, b.kept j (inl h), b.up (suc j)), omega (arith, b.up (suc j)))
-
-    pub forth_small : (j : ℕ) → j ≤ k → instant_at z j ≤ 64 * 2 ^ 32
-    forth_small j h =
-        let most = 64 * 2 ^ 32 in
-        let all : (i : ℕ) → i ≤ k → instant_at x i ≤ most =
-        λ i l. omega (arith, rising k (instant_at x) (λ n m. (s.follows n m).0) i l, s.level, s.entered.small) in
-        let t =
-        b.under (λ n. max (instant_at x n) most)
-        (λ i l.
-        omega (arith, all (suc i) (omega (arith, s.within)), asked_le (W i).high (s.closed i (omega (arith, s.within))) (max (instant_at x (suc i)) most)))
-        (λ n. omega arith) j in
-        omega (arith, all j h)
 
     module _ {to : ℕ} {y : List ℕ} (f : Forward W from k z to k y) where
       round_under : (S : ℕ → ℕ) → ((j : ℕ) → j < k → Meets 1 S j (W j)) → Under (instant_at y) S
@@ -252,7 +242,6 @@ module _ {W : ℕ → Win} {k : ℕ} where
               record {
                 few = s.few;
                 earlier = s.earlier;
-                closed = s.closed;
                 entered = s.entered;
                 below = omega arith;
                 some = omega arith;

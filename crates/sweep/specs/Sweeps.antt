@@ -1,7 +1,7 @@
 -- What the sweeps do. An instant is raised only as far as a constraint asks, so it stays below whatever meets the constraints. A sweep backward takes
 -- the firings from the last, so that it leaves every upper bound met; a sweep forward takes them from the first, so that it leaves order and every lower
 -- bound met.
-use Rattle.std.specs.Prelude.{ℕ, suc, ◌+◌, ◌*◌, ◌-◌, ◌≤◌, ◌<◌, ◌^◌, ◌≡◌, List, ◌⊎◌, length}
+use Rattle.std.specs.Prelude.{ℕ, suc, ◌+◌, ◌*◌, ◌-◌, ◌≤◌, ◌<◌, ◌^◌, ◌≡◌, List, ◌⊎◌, get_or, length}
 use Rattle.timing.specs.Timing.{Upper, at_most, below, unbounded, Win, Meets, Feasible, Under}
 use Rattle.timing.specs.Solve.{instant_at}
 
@@ -30,6 +30,11 @@ pub record Backward (W : ℕ → Win) (top : ℕ) (x₀ : List ℕ) (from i : �
   pub kept : (j : ℕ) → (j < from) ⊎ (top ≤ j) → instant_at x j ≡ instant_at x₀ j
   pub rose : from < top → instant_at x₀ from < instant_at x from
 
+-- the firings behind the windows until, .., k - 1 are not too early
+pub record Ahead (W : ℕ → Win) (k until : ℕ) (x : List ℕ) : Type 0 where
+  pub within : until ≤ k
+  pub follows : (j : ℕ) → until ≤ j → j < k → Follows W (instant_at x) j
+
 -- x is what x₀ became when the firings from + 1, .., i were raised to their lower bounds; `to` is the highest index that rose, and 0 where none did
 pub record Forward (W : ℕ → Win) (from k : ℕ) (x₀ : List ℕ) (to i : ℕ) (x : List ℕ) : Type 0 where
   pub after : from ≤ i
@@ -42,6 +47,11 @@ pub record Forward (W : ℕ → Win) (from k : ℕ) (x₀ : List ℕ) (to i : �
   pub kept : (j : ℕ) → (to < j) ⊎ (j ≤ from) → instant_at x j ≡ instant_at x₀ j
   pub rose : 0 < to → instant_at x₀ to < instant_at x to
   pub small : (j : ℕ) → j ≤ k → instant_at x j ≤ (64 + i) * 2 ^ 32
+
+-- each of the first n windows is below the numbers of the firing right before it and of its origin, and no number is over n
+pub record Reaching (W : ℕ → Win) (n : ℕ) (reach : List ℕ) : Type 0 where
+  pub past : (j : ℕ) → j < n → (j < get_or reach j 0) × (j < get_or reach (W j).origin 0)
+  pub within : (o : ℕ) → get_or reach o 0 ≤ n
 
 -- x starts with the least instants that meet the first k windows
 pub record Solved (W : ℕ → Win) (k : ℕ) (x : List ℕ) : Type 0 where

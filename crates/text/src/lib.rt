@@ -17,8 +17,8 @@ enum ByteClass {
     Other,
 }
 
-// The class of a byte. The classes are asked in the order in which they occur, a digit before a zero, so that no branch hangs on the value of a weight: with
-// an arm for each a large card took two fifths longer.
+// The class of a byte. The classes are asked in the order in which they occur, a digit before a zero, so that no branch depends on the value of a weight:
+// with an arm for each a large card took two fifths longer.
 fn class_of(b: u8) -> ByteClass
     ensures { result ≡ class_of b }
 {
@@ -67,7 +67,9 @@ fn separated(s: &[u8], at: usize, last: bool) -> bool
 }
 
 // The number that stands at a position, one to nine digits without a leading zero, with its separator: a line end behind the last of a line, else a comma.
-// And the position behind both. Most weights of a net have one digit, so that is looked for first, and for a zero as for any other digit.
+// And the position behind both. Most weights of a net have one digit, so that is looked for first, and for a zero as for any other digit. Longer numbers have
+// a function of their own, so that this one can stand at the place of the call: what it answers then needs no memory, and a large card takes half the time.
+#[inline]
 pub fn field_at(s: &[u8], at: usize, last: bool) -> Option<(u32, usize)>
     ensures { result ≡ field_at s.now at last }
 {
@@ -84,11 +86,13 @@ pub fn field_at(s: &[u8], at: usize, last: bool) -> Option<(u32, usize)>
 }
 
 // The number that begins with a digit other than 0.
+#[inline(never)]
 fn number_from(s: &[u8], at: usize, last: bool) -> Option<(u32, usize)>
     requires { (at < length s.now) × (is_digit (get_or s.now at 0) ≡ true) × (get_or s.now at 0 ≢ 48) }
     ensures { result ≡ field_at s.now at last }
 {
-    let mut v = (s[at] - 48) as u32;
+    let mut v = (s[at] - b'0') as u32;
+    // The position is counted, since it is answered.
     for i in at + 1..s.len() {
         if !is_digit(s[i]) {
             return if separated(s, i, last) {
@@ -100,7 +104,7 @@ fn number_from(s: &[u8], at: usize, last: bool) -> Option<(u32, usize)>
         if i - at == 9 {
             return None;
         }
-        v = v * 10 + (s[i] - 48) as u32;
+        v = v * 10 + (s[i] - b'0') as u32;
     }
     None
 }
@@ -115,7 +119,7 @@ pub fn begins_at(s: &[u8], at: usize, key: &[u8]) -> bool
     s[at..].starts_with(key)
 }
 
-// The k-th power of ten.
+// The k-th power of ten. A constant table would be copied to the stack at every look.
 fn power(k: usize) -> u64
     requires { k ≤ 19 }
     ensures { result ≡ 10 ^ k }
@@ -158,6 +162,7 @@ fn subtract(v: u64, p: u64) -> Subtracted
 {
     let mut times: u8 = 0;
     let mut left = v;
+    // How often is not known before: this is no loop over a range.
     while p <= left {
         left -= p;
         times += 1;
@@ -215,9 +220,10 @@ impl<'a> Writer<'a> {
     pub fn put_byte(&mut self, b: u8)
         ensures { Writes self.old (b ∷ []) self.new }
     {
-        if self.at < self.out.len() {
-            self.out[self.at] = b;
-            self.at += 1;
+        let at = self.at;
+        if at < self.out.len() {
+            self.out[at] = b;
+            self.at = at + 1;
         } else {
             self.at = self.out.len() + 1;
         }
@@ -238,7 +244,8 @@ impl<'a> Writer<'a> {
         }
     }
 
-    // A number, its highest digit first.
+    // A number, its highest digit first. One and two digits are written at the place of the call.
+    #[inline]
     pub fn put_number(&mut self, n: u64)
         ensures { Writes self.old (decimal n) self.new }
     {
@@ -250,17 +257,25 @@ impl<'a> Writer<'a> {
         }
     }
 
-    // A number of two digits.
+    // A number of two digits, both at once where they fit.
     fn put_two(&mut self, n: u64)
         requires { (10 ≤ n) × (n < 100) }
         ensures { Writes self.old (decimal n) self.new }
     {
         let tens = subtract(n, 10);
+        let start = self.at;
+        if 2 <= self.out.len().saturating_sub(start) {
+            self.out[start] = 48 + tens.times;
+            self.out[start + 1] = (48 + tens.left) as u8;
+            self.at = start + 2;
+            return;
+        }
         self.put_byte(48 + tens.times);
         self.put_byte((48 + tens.left) as u8);
     }
 
     // A number of three digits, as larger weights and tokens have.
+    #[inline(never)]
     fn put_three(&mut self, n: u64)
         requires { (100 ≤ n) × (n < 1000) }
         ensures { Writes self.old (decimal n) self.new }
@@ -273,6 +288,7 @@ impl<'a> Writer<'a> {
     }
 
     // Any number: each digit is how often its power of ten can be subtracted from what the digits before it have left.
+    #[inline(never)]
     fn put_digits(&mut self, n: u64)
         ensures { Writes self.old (decimal n) self.new }
     {

@@ -33,6 +33,8 @@ fn result_of(r: Result<usize, Refusal>) -> i64
     }
 }
 
+// The exported functions differ in their operation alone: the C interface names each.
+
 // Replays a run: its end.
 #[unsafe(no_mangle)]
 pub extern "C" fn tpn_replay(input: &[u8], output: &mut [u8]) -> i64

@@ -5,10 +5,10 @@ use Rattle.operations.specs.Process.{process_of}
 use Rattle.engine.proofs.Outcome.{check_refused, check_passed}
 use Rattle.engine.proofs.process.Goals as goal
 
-pub returns-in_err-check_run : goal.returns-in_err-check_run
-returns-in_err-check_run c = let a = c.args in
-    rw (exits c.from_residual.ensures.1) (check_refused (process_of a.net a.run) a.out.now (sym c.check_run.ensures ∙ c.in_err-check_run.was))
+pub returns-in_err-check : goal.returns-in_err-check
+returns-in_err-check c = let a = c.args in
+    rw (exits c.from_residual.ensures.1) (check_refused (process_of a.net a.run) a.out.now (sym c.check.ensures ∙ c.in_err-check.was))
 
 pub returns : goal.returns
 returns c = let a = c.args in
-    check_passed (process_of a.net a.run) (sym c.check_run.ensures ∙ c.in_ok-check_run.was) c.process_checked.ensures
+    check_passed (process_of a.net a.run) (sym c.check.ensures ∙ c.in_ok-check.was) c.process_checked.ensures

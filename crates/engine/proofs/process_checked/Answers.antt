@@ -4,9 +4,11 @@ use Rattle.reply.proofs.Exit.{exits}
 use Rattle.engine.proofs.Operations.{process_allowed, process_refused, process_answered}
 use Rattle.engine.proofs.process_checked.Goals as goal
 
-pub respond_process-requires : goal.respond_process-requires
-respond_process-requires c = let allowed = process_allowed c.args.net c.args.run c.play.ensures c.in_ok-play.was in
-    (allowed, process_fits c.args.net c.args.run c.requires allowed)
+pub respond-requires-clause-ready : goal.respond-requires-clause-ready
+respond-requires-clause-ready c = process_allowed c.args.net c.args.run c.play.ensures c.in_ok-play.was
+
+pub respond-requires-clause-fits : goal.respond-requires-clause-fits
+respond-requires-clause-fits c = let a = c.args in process_fits a.net a.run c.requires (process_allowed a.net a.run c.play.ensures c.in_ok-play.was)
 
 pub returns-in_err-play : goal.returns-in_err-play
 returns-in_err-play c = let a = c.args in
@@ -14,4 +16,4 @@ returns-in_err-play c = let a = c.args in
 
 pub returns : goal.returns
 returns c = let a = c.args in
-    process_answered a.net a.run c.play.ensures c.in_ok-play.was c.respond_process.ensures
+    process_answered a.net a.run c.play.ensures c.in_ok-play.was c.respond.ensures

@@ -8,12 +8,12 @@ use Rattle.engine.proofs.Outcome.{cards_refused, cards_found}
 use Rattle.engine.proofs.replay_cards.Goals as goal
 
 pub replay_checked-requires : goal.replay_checked-requires
-replay_checked-requires c = run_cards_passed c.args.input.now (was_found (sym c.net_and_run.ensures ∙ c.in_ok-net.was)).1
+replay_checked-requires c = run_cards_passed c.args.input.now (was_found (sym c.net_and.ensures ∙ c.in_ok-net.was)).1
 
 pub returns-in_err-net : goal.returns-in_err-net
 returns-in_err-net c =
     rw (exits c.from_residual.ensures.1)
-    (cards_refused (λ v. replay_of v.0 v.1) c.args.out.now (was_refused (sym c.net_and_run.ensures ∙ c.in_err-net.was)))
+    (cards_refused (λ v. replay_of v.0 v.1) c.args.out.now (was_refused (sym c.net_and.ensures ∙ c.in_err-net.was)))
 
 pub returns : goal.returns
-returns c = cards_found (λ v. replay_of v.0 v.1) (was_found (sym c.net_and_run.ensures ∙ c.in_ok-net.was)).1 c.replay_checked.ensures
+returns c = cards_found (λ v. replay_of v.0 v.1) (was_found (sym c.net_and.ensures ∙ c.in_ok-net.was)).1 c.replay_checked.ensures

@@ -5,10 +5,10 @@ use Rattle.operations.specs.Round.{round_of}
 use Rattle.engine.proofs.Outcome.{check_refused, check_passed}
 use Rattle.engine.proofs.round.Goals as goal
 
-pub returns-in_err-check_run : goal.returns-in_err-check_run
-returns-in_err-check_run c = let a = c.args in
-    rw (exits c.from_residual.ensures.1) (check_refused (round_of a.net a.run) a.out.now (sym c.check_run.ensures ∙ c.in_err-check_run.was))
+pub returns-in_err-check : goal.returns-in_err-check
+returns-in_err-check c = let a = c.args in
+    rw (exits c.from_residual.ensures.1) (check_refused (round_of a.net a.run) a.out.now (sym c.check.ensures ∙ c.in_err-check.was))
 
 pub returns : goal.returns
 returns c = let a = c.args in
-    check_passed (round_of a.net a.run) (sym c.check_run.ensures ∙ c.in_ok-check_run.was) c.round_checked.ensures
+    check_passed (round_of a.net a.run) (sym c.check.ensures ∙ c.in_ok-check.was) c.round_checked.ensures

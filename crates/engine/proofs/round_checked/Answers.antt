@@ -3,8 +3,8 @@ use Rattle.reply.proofs.Exit.{exits}
 use Rattle.engine.proofs.Operations.{rounded_fits, round_refused, round_answered}
 use Rattle.engine.proofs.round_checked.Goals as goal
 
-pub respond_run-requires : goal.respond_run-requires
-respond_run-requires c = rounded_fits c.args.net c.args.run c.requires c.rounded_run.ensures
+pub respond-requires-clause-fits : goal.respond-requires-clause-fits
+respond-requires-clause-fits c = rounded_fits c.args.net c.args.run c.requires c.rounded_run.ensures
 
 pub returns-in_err-play : goal.returns-in_err-play
 returns-in_err-play c = let a = c.args in
@@ -12,4 +12,4 @@ returns-in_err-play c = let a = c.args in
 
 pub returns : goal.returns
 returns c = let a = c.args in
-    round_answered a.net a.run c.play.ensures c.in_ok-play.was c.rounded_run.ensures c.respond_run.ensures
+    round_answered a.net a.run c.play.ensures c.in_ok-play.was c.rounded_run.ensures c.respond.ensures

@@ -5,10 +5,10 @@ use Rattle.operations.specs.Timetable.{timetable_of}
 use Rattle.engine.proofs.Outcome.{check_refused, check_passed}
 use Rattle.engine.proofs.timetable.Goals as goal
 
-pub returns-in_err-check_order : goal.returns-in_err-check_order
-returns-in_err-check_order c = let a = c.args in
-    rw (exits c.from_residual.ensures.1) (check_refused (timetable_of a.net a.order) a.out.now (sym c.check_order.ensures ∙ c.in_err-check_order.was))
+pub returns-in_err-check : goal.returns-in_err-check
+returns-in_err-check c = let a = c.args in
+    rw (exits c.from_residual.ensures.1) (check_refused (timetable_of a.net a.order) a.out.now (sym c.check.ensures ∙ c.in_err-check.was))
 
 pub returns : goal.returns
 returns c = let a = c.args in
-    check_passed (timetable_of a.net a.order) (sym c.check_order.ensures ∙ c.in_ok-check_order.was) c.timetable_checked.ensures
+    check_passed (timetable_of a.net a.order) (sym c.check.ensures ∙ c.in_ok-check.was) c.timetable_checked.ensures

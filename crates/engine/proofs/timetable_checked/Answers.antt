@@ -3,8 +3,8 @@ use Rattle.reply.proofs.Exit.{exits}
 use Rattle.engine.proofs.Operations.{timetable_refused, timetable_fits, timetable_answered}
 use Rattle.engine.proofs.timetable_checked.Goals as goal
 
-pub respond_run-requires : goal.respond_run-requires
-respond_run-requires c = timetable_fits c.args.net c.args.order c.requires c.timetable.ensures c.in_ok-run.was
+pub respond-requires-clause-fits : goal.respond-requires-clause-fits
+respond-requires-clause-fits c = timetable_fits c.args.net c.args.order c.requires c.timetable.ensures c.in_ok-run.was
 
 pub returns-in_err-run : goal.returns-in_err-run
 returns-in_err-run c =
@@ -12,4 +12,4 @@ returns-in_err-run c =
     (timetable_refused c.args.net c.args.order c.requires c.timetable.ensures c.args.out.now c.in_err-run.was)
 
 pub returns : goal.returns
-returns c = timetable_answered c.args.net c.args.order c.requires c.timetable.ensures c.in_ok-run.was c.respond_run.ensures
+returns c = timetable_answered c.args.net c.args.order c.requires c.timetable.ensures c.in_ok-run.was c.respond.ensures

@@ -8,9 +8,9 @@ overflow_add-number c = omega (arith, count_few c.args.run c.standing.ensures c.
 
 pub judge-requires : goal.judge-requires
 judge-requires c = let a = c.args in
-    fire_allowed a.run c.standing.ensures c.in_ok-state.was a.t c.check_range.ensures c.in_ok-check_range.was c.check_listed.ensures c.in_ok-check_listed.was
+    fire_allowed a.run c.standing.ensures c.in_ok-state.was a.t c.check.ensures c.in_ok-check.was c.check-2.ensures c.in_ok-check-2.was
 
 pub returns : goal.returns
 returns c = let a = c.args in
-    fire_said a.run c.standing.ensures c.in_ok-state.was a.t c.check_range.ensures c.in_ok-check_range.was c.check_listed.ensures c.in_ok-check_listed.was
+    fire_said a.run c.standing.ensures c.in_ok-state.was a.t c.check.ensures c.in_ok-check.was c.check-2.ensures c.in_ok-check-2.was
     c.judge.ensures

@@ -11,7 +11,7 @@ pub returns-then-not-run : goal.returns-then-not-run
 returns-then-not-run c =
     elim c.then-not-run.branch [
       | then-not-run-via-then-not-run w ↦ not_running c.args.run (not-true _ w.if-not-run.true)
-      | then-not-run-via-else-not-run+then-is_err w ↦ not_a_card c.args.run w.check_run.ensures w.if-is_err.ensures.value
+      | then-not-run-via-else-not-run+then-is_err w ↦ not_a_card c.args.run w.check.ensures w.if-is_err.ensures.value
     ]
 
 pub returns-then-is_err-2 : goal.returns-then-is_err-2
@@ -24,10 +24,10 @@ returns-then-is_err-2 c = let r = c.args.run in
 
 pub overflow_add-state : goal.overflow_add-state
 overflow_add-state c = let r = c.args.run in
-    omega (arith, rest_fits r.net r.run c.play-played.ensures (sym c.check_run.ensures ∙ has_passed c.if-is_err.ensures.value))
+    omega (arith, rest_fits r.net r.run c.play-played.ensures (sym c.check.ensures ∙ has_passed c.if-is_err.ensures.value))
 
 pub returns : goal.returns
 returns c = let r = c.args.run in
     let slots : length c.args.run.run.firings ≡ 64 = search (rules, length_mapped) in
-    stands_there r c.play-played.ensures (not-false _ c.if-not-run.false) (sym c.check_run.ensures ∙ has_passed c.if-is_err.ensures.value)
+    stands_there r c.play-played.ensures (not-false _ c.if-not-run.false) (sym c.check.ensures ∙ has_passed c.if-is_err.ensures.value)
     (has_passed c.if-is_err-2.ensures.value) slots (sym c.if-not-is_blank_behind.ensures)

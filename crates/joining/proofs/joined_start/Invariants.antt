@@ -3,4 +3,4 @@ use Rattle.joining.proofs.Moving.{Starting}
 use Rattle.joining.proofs.joined_start.Given as goal
 
 abbrev pub invariant-loop-p : goal.invariant-loop-p
-invariant-loop-p l = Starting l.start l.places l.other l.sources l.joined l.p
+invariant-loop-p l = Starting l.other l.at l.joined l.p

@@ -3,4 +3,4 @@ use Rattle.net_card.proofs.Check.{RowsChecked}
 use Rattle.net_card.proofs.check_net.Given as goal
 
 abbrev pub invariant-loop-t : goal.invariant-loop-t
-invariant-loop-t l = RowsChecked l.net l.t
+invariant-loop-t l = RowsChecked l.fn.net l.t

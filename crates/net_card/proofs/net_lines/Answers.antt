@@ -5,4 +5,4 @@ use Rattle.net_card.proofs.net_lines.Goals as goal
 
 pub returns : goal.returns
 returns c = let a = c.args in
-    c.table_lines.ensures ∙ starts_found a.head a.s.now a.at c.requires.0 (sym c.start_lines.ensures ∙ c.in_ok-start.was)
+    c.table_lines.ensures ∙ starts_found a.head a.s.now a.at a.head.few_places (sym c.start_lines.ensures ∙ c.in_ok-start.was)

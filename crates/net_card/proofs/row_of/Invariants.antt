@@ -5,4 +5,4 @@ use Rattle.laws.specs.Arrays.{Filling}
 use Rattle.net_card.proofs.row_of.Given as goal
 
 abbrev pub invariant-loop-p : goal.invariant-loop-p
-invariant-loop-p l = Filling (λ k. get_or l.table (l.first + l.step * k) 0) 16 (replicate 16 0) l.p l.row
+invariant-loop-p l = Filling (λ k. get_or l.table (l.from.first + l.from.step * k) 0) 16 (replicate 16 0) l.p l.weight-items

@@ -5,7 +5,7 @@ use Rattle.net_card.proofs.Stored.{slot_within, storing_start, storing_missing, 
 use Rattle.net_card.proofs.store_items.Goals as goal
 
 pub loop-i-init : goal.loop-i-init
-loop-i-init c = let a = c.args in storing_start a.to a.s.now a.at a.line a.table.now c.requires.0
+loop-i-init c = let a = c.args in storing_start a.to a.s.now a.at a.line a.table.now
 
 pub returns-in_err-value : goal.returns-in_err-value
 returns-in_err-value c =
@@ -13,7 +13,7 @@ returns-in_err-value c =
     rw (exits c.from_residual.ensures.1, ← none.1) (storing_missing c.loop-i.invariant c.loop-i-test.true refl (sym c.field_at.ensures ∙ none.0))
 
 pub store-narrow-requires : goal.store-narrow-requires
-store-narrow-requires c = slot_within c.args.to.first c.args.to.step c.loop-i.i c.requires.1 (omega arith)
+store-narrow-requires c = slot_within c.args.to.first c.args.to.step c.loop-i.i c.args.to.within (omega arith)
 
 pub loop-i-preserved : goal.loop-i-preserved
 loop-i-preserved c =

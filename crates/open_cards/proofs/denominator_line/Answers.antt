@@ -8,11 +8,11 @@ pub returns-in_err-value : goal.returns-in_err-value
 returns-in_err-value c = let a = c.args in
     exits c.from_residual.ensures.1 ∙ none_there a.s.now a.at (sym c.number_line.ensures ∙ c.in_err-value.was)
 
-pub returns-in_err-check_range : goal.returns-in_err-check_range
-returns-in_err-check_range c = let a = c.args in
-    exits c.from_residual-in_err-check_range.ensures.1
-    ∙ out_of_range a.s.now a.at (sym c.number_line.ensures ∙ c.in_ok-value.was) (sym c.check_range.ensures ∙ c.in_err-check_range.was)
+pub returns-in_err-check : goal.returns-in_err-check
+returns-in_err-check c = let a = c.args in
+    exits c.from_residual-in_err-check.ensures.1
+    ∙ out_of_range a.s.now a.at (sym c.number_line.ensures ∙ c.in_ok-value.was) (sym c.check.ensures ∙ c.in_err-check.was)
 
 pub returns : goal.returns
 returns c = let a = c.args in
-    in_range a.s.now a.at (sym c.number_line.ensures ∙ c.in_ok-value.was) (sym c.check_range.ensures ∙ c.in_ok-check_range.was)
+    in_range a.s.now a.at (sym c.number_line.ensures ∙ c.in_ok-value.was) (sym c.check.ensures ∙ c.in_ok-check.was)

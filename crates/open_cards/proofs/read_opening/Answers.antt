@@ -5,4 +5,4 @@ use Rattle.open_cards.proofs.read_opening.Goals as goal
 
 pub returns : goal.returns
 returns c = let a = c.args in
-    c.opening_on_sheet.ensures ∙ on_sheet_lem a.own a.s.now (sym c.sheet_line.ensures ∙ c.in_ok-next.was)
+    c.opening_on_sheet.ensures ∙ on_sheet_lem a.own a.s.now (sym c.number_line.ensures ∙ c.in_ok-next.was)

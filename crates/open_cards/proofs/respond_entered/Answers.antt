@@ -9,4 +9,4 @@ returns-in_err-e c = rw (exits c.from_residual.ensures.1, c.in_err-e.was) (recor
 
 pub returns : goal.returns
 returns c = let passed = c.in_ok-e.was in
-    entered_answered c.args.e passed (c.requires passed) c.write_run.ensures
+    entered_answered c.args.e passed (c.requires passed) c.write.ensures

@@ -6,8 +6,8 @@ use Rattle.ranking.proofs.check_two_runs.Goals as goal
 
 pub returns : goal.returns
 returns c = let a = c.args in
-    c.check_run_lines.ensures ∙ rw (two_runs_lem a.net a.x a.y, sym c.check_run.ensures ∙ c.in_ok-check_run.was)
+    c.check_lines.ensures ∙ rw (two_runs_lem a.net a.x a.y, sym c.check.ensures ∙ c.in_ok-check.was)
 
-pub returns-in_err-check_run : goal.returns-in_err-check_run
-returns-in_err-check_run c = let a = c.args in
-    exits c.from_residual.ensures.1 ∙ rw (two_runs_lem a.net a.x a.y, sym c.check_run.ensures ∙ c.in_err-check_run.was)
+pub returns-in_err-check : goal.returns-in_err-check
+returns-in_err-check c = let a = c.args in
+    exits c.from_residual.ensures.1 ∙ rw (two_runs_lem a.net a.x a.y, sym c.check.ensures ∙ c.in_err-check.was)

@@ -11,17 +11,17 @@ pub returns-in_err-x : goal.returns-in_err-x
 returns-in_err-x c = let n = c.in_ok-net.net in
     exits c.from_residual-in_err-x.ensures.1
     ∙ x_refused c.args.input.now (sym c.read_net.ensures ∙ c.in_ok-net.was)
-    (ap (front (card_of run_card n)) (sym c.remainder-behind.ensures.0) ∙ sym c.run_front.ensures.value ∙ c.in_err-x.was)
+    (ap (front (card_of run_card n)) (sym c.remainder-behind.ensures.0) ∙ sym c.front.ensures ∙ c.in_err-x.was)
 
 pub returns-in_err-y : goal.returns-in_err-y
 returns-in_err-y c = let n = c.in_ok-net.net in
     exits c.from_residual-in_err-y.ensures.1
     ∙ y_refused c.args.input.now (sym c.read_net.ensures ∙ c.in_ok-net.was)
-    (ap (front (card_of run_card n)) (sym c.remainder-behind.ensures.0) ∙ sym c.run_front.ensures.value ∙ c.in_ok-x.was)
-    (rw c.remainder-behind.ensures.0 at (ap (alone (card_of run_card n)) (sym c.remainder.ensures.0)) ∙ sym c.run_card.ensures ∙ c.in_err-y.was)
+    (ap (front (card_of run_card n)) (sym c.remainder-behind.ensures.0) ∙ sym c.front.ensures ∙ c.in_ok-x.was)
+    (rw c.remainder-behind.ensures.0 at (ap (alone (card_of run_card n)) (sym c.remainder.ensures.0)) ∙ sym c.whole.ensures ∙ c.in_err-y.was)
 
 pub returns : goal.returns
 returns c = let n = c.in_ok-net.net in
     runs_read c.args.input.now (sym c.read_net.ensures ∙ c.in_ok-net.was)
-    (ap (front (card_of run_card n)) (sym c.remainder-behind.ensures.0) ∙ sym c.run_front.ensures.value ∙ c.in_ok-x.was)
-    (rw c.remainder-behind.ensures.0 at (ap (alone (card_of run_card n)) (sym c.remainder.ensures.0)) ∙ sym c.run_card.ensures ∙ c.in_ok-y.was)
+    (ap (front (card_of run_card n)) (sym c.remainder-behind.ensures.0) ∙ sym c.front.ensures ∙ c.in_ok-x.was)
+    (rw c.remainder-behind.ensures.0 at (ap (alone (card_of run_card n)) (sym c.remainder.ensures.0)) ∙ sym c.whole.ensures ∙ c.in_ok-y.was)

@@ -27,7 +27,8 @@ loop-i-preserved c =
     let size : length a.order.fires ≡ 64 = search rules in
     let front = in_front c.min-count.result a.order.fires 0 l.i (omega (arith, c.min-count.ensures)) c.loop-i-test.true in
     let few : l.i < min a.order.count 64 = omega (arith, c.min-count.ensures, front.0) in
-    let step = rw front.1 at c.step.ensures in
+    let terms = c.of-terms.ensures in
+    let step = rw (terms.0, terms.1, terms.2, front.1) at c.step.ensures in
     let long : length a.net.table ≡ 32 = search (rules, length_mapped) in
     elim c.if-t-lt32.branch [
       | then-t-lt32 v ↦ rw (v.windows-is, front.1) (collecting_more a.net a.order l.invariant few step c.in_ok-step.was refl)
@@ -48,7 +49,7 @@ returns-in_err-step c =
     let front = in_front c.min-count.result a.order.fires 0 c.loop-i.i (omega (arith, c.min-count.ensures)) c.loop-i-test.true in
     let few : c.loop-i.i < min a.order.count 64 = omega (arith, c.min-count.ensures, front.0) in
     exits c.from_residual.ensures.1
-    ∙ collecting_refused a.net a.order c.loop-i.invariant few (rw front.1 at c.step.ensures) c.in_err-step.was
+    ∙ collecting_refused a.net a.order c.loop-i.invariant few (rw (c.of-terms.ensures.0, c.of-terms.ensures.1, c.of-terms.ensures.2, front.1) at c.step.ensures) c.in_err-step.was
 
 pub returns : goal.returns
 returns c =

@@ -1,14 +1,19 @@
--- A word that begins a line of its own length is the line.
-use mathlib.Core.Path.{sym, ap, ◌∙◌}
-use lib.ListN.{length}
-use Rattle.laws.specs.Tests.{not_same}
-use Rattle.session.proofs.Lines.{begins_same}
+-- A line is a word where each byte is.
+use Prim.Native.Nat.{ℕ}
+use mathlib.Core.Path.{◌≡◌, refl, ap, ◌∙◌}
+use mathlib.Core.Bool.{Bool, ◌&&◌}
+use mathlib.Core.List.{List, [], ◌∷◌}
+use lib.Dec.{eqb}
+use lib.Pointwise.{pointwise}
+use Rattle.laws.specs.Tests.{same_numbers}
 use Rattle.session.proofs.is_word.Goals as goal
 
-pub returns-then-line-word : goal.returns-then-line-word
-returns-then-line-word c = let a = c.args in
-    sym (not_same a.line.now a.word.now (λ e. c.if-line-word.true (ap length e)))
+same : (s word : List ℕ) → pointwise eqb s word ≡ same_numbers s word
+unfolding same_numbers
+same [] [] = refl
+same [] (b ∷ word) = refl
+same (a ∷ s) [] = refl
+same (a ∷ s) (b ∷ word) = ap (λ (t : Bool). eqb a b && t) (same s word)
 
 pub returns : goal.returns
-returns c = let a = c.args in
-    c.begins_at.ensures ∙ begins_same a.line.now a.word.now c.if-line-word.false
+returns c = c.eq.ensures ∙ same c.args.line.now c.args.word.now

@@ -1,5 +1,6 @@
 -- `ok` and the two lines of a refusal fit the output.
-use native.Mathlib.Omega.{arith}
+use Rattle.std.proofs.Common.{arith, rules, ◌≡◌, length}
+use Rattle.laws.specs.Tables.{length_mapped}
 use Rattle.session.proofs.Fronts.{put_front}
 use Rattle.session.proofs.put_told.Goals as goal
 
@@ -7,4 +8,5 @@ pub returns-in-Err : goal.returns-in-Err
 returns-in-Err c = rw c.in-Err.is c.put_refused.ensures
 
 pub returns-in-Ok : goal.returns-in-Ok
-returns-in-Ok c = rw c.in-Ok.is (put_front (omega (arith, c.put_word-arg-1.given.0.1)) c.put_word.ensures)
+returns-in-Ok c = let long : length c.args.out.now ≡ 2048 = search (rules, length_mapped) in
+    rw c.in-Ok.is (put_front (omega (arith, long)) c.put_word.ensures)

@@ -18,14 +18,14 @@ pub returns-in_default : goal.returns-in_default
 returns-in_default c = let a = c.args in
     playing_refused a.net a.run c.loop-i.invariant c.min-count.ensures (search (rules, length_mapped)) c.loop-i-test.true {interval = c.unwrap_or.result}
     (search rules)
-    c.step-checked.ensures
+    (rw (c.of-terms.ensures.0, c.of-terms.ensures.1, c.of-terms.ensures.2) at c.step-checked.ensures)
     c.in_default.is
 
 pub loop-i-preserved : goal.loop-i-preserved
 loop-i-preserved c = let a = c.args in
     playing_more a.net a.run c.loop-i.invariant c.min-count.ensures (search (rules, length_mapped)) c.loop-i-test.true {interval = c.unwrap_or.result}
     (search rules)
-    c.step-checked.ensures
+    (rw (c.of-terms.ensures.0, c.of-terms.ensures.1, c.of-terms.ensures.2) at c.step-checked.ensures)
     c.in-Ok.is
     (omega arith)
 

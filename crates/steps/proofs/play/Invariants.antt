@@ -3,4 +3,4 @@ use Rattle.steps.proofs.Playing.{Playing}
 use Rattle.steps.proofs.play.Given as goal
 
 abbrev pub invariant-loop-i : goal.invariant-loop-i
-invariant-loop-i l = Playing l.net l.fn.run l.state l.i
+invariant-loop-i l = Playing l.fn.net l.fn.run l.state l.i

@@ -2,7 +2,7 @@
 use native.Mathlib.Omega.{arith}
 use Rattle.std.proofs.Common.{◌+◌}
 use Rattle.std.proofs.lemmas.Bool.{le-leb}
-use Rattle.sweep.proofs.Prefixes.{enter_fits, enter_met, enter_put, first_listed, first_entered, first_met}
+use Rattle.sweep.proofs.Prefixes.{enter_fits, enter_met, enter_put, first_listed, reaching_more, first_reaching, first_entered, first_met}
 use Rattle.sweep.proofs.enter.Goals as goal
 
 pub overflow_add-x : goal.overflow_add-x
@@ -19,7 +19,11 @@ pub settle-requires : goal.settle-requires
 settle-requires c = let p = c.requires in
     let n = c.args.i + 1 in
     record {
-      listed = first_listed c.args.windows.now n (omega arith) p.listed;
+      listed = (
+        first_listed c.args.windows.now n (omega arith) p.listed,
+        first_reaching c.args.windows.now n (omega arith)
+            (reaching_more p.reached (omega (arith, p.listed)) (omega (arith, p.listed, p.listed.earlier c.args.i p.below))),
+      );
       entered =
           first_entered c.args.windows.now n (omega arith) (enter_put p.listed p.below p.short (omega arith) p.solved c.max-t.result c.max-t.ensures);
     }

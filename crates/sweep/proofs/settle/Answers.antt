@@ -2,16 +2,16 @@
 use mathlib.Core.Path.{refl}
 use native.Mathlib.Numerals.{add-one}
 use native.Mathlib.Omega.{arith}
-use Rattle.sweep.proofs.Raising.{upper_closed}
-use Rattle.sweep.proofs.Rounds.{settle_start, settle_none, settle_started, forth_from, forth_follows, forth_small, settle_done}
+use Rattle.sweep.proofs.Rounds.{settle_start, settling_small, settle_none, settle_started, forth_from, forth_follows, settle_done}
 use Rattle.sweep.proofs.Rounds.{settle_above, settle_more, settle_spent}
-use Rattle.timing.specs.Windows.{no_window}
-use lib.ListN.{get_or}
 use Rattle.sweep.proofs.settle.Goals as goal
 
 pub loop-init : goal.loop-init
-loop-init c = let p = c.requires.listed in
-    settle_start p.few p.earlier (λ i l. upper_closed (get_or c.args.windows.now i no_window).interval.latest) c.requires.entered
+loop-init c = let p = c.requires.listed.0 in
+    settle_start p.few p.earlier c.requires.entered
+
+pub backward-requires-clause-small : goal.backward-requires-clause-small
+backward-requires-clause-small c = settling_small c.loop.invariant
 
 pub returns-in_default : goal.returns-in_default
 returns-in_default c = settle_none c.loop.invariant c.in_default.ensures refl
@@ -22,7 +22,12 @@ returns-then-start_rises c = settle_started c.loop.invariant c.in-Some.ensures.0
 pub forward-requires : goal.forward-requires
 forward-requires c = let s = c.loop.invariant in
     let b = c.in-Some.ensures.0 in
-    record { listed = c.requires.listed; below = forth_from s b; follows = forth_follows s b; small = forth_small s b }
+    record {
+      listed = c.requires.listed;
+      follows = (forth_from s b, forth_follows s b);
+      ahead = c.in-Some.ensures.2;
+      small = c.in-Some.ensures.3;
+    }
 
 pub returns-in_default-forward : goal.returns-in_default-forward
 returns-in_default-forward c = settle_done c.loop.invariant c.in-Some.ensures.0 c.in_default-forward.ensures c.if-start_rises.false refl

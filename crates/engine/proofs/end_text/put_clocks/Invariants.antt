@@ -7,4 +7,5 @@ use Rattle.engine.proofs.end_text.put_clocks.Given as goal
 
 abbrev pub invariant-loop-on : goal.invariant-loop-on
 invariant-loop-on l =
-    WritesFirst (joined (clock_line l.flags l.since l.instant) l.count) (clock_line l.flags l.since l.instant) l.count l.initial.w (length l.yielded) l.w
+    let lines = clock_line l.flags l.since l.instant in
+    WritesFirst (joined lines (length l.flags)) lines (length l.flags) l.initial.w (length l.yielded) l.w

@@ -3,8 +3,8 @@ use Rattle.std.proofs.Common.{refl}
 use Rattle.laws.specs.Writing.{puts_byte, puts_over}
 use Rattle.text.proofs.Writer.put_byte.Goals as goal
 
-pub returns-then-self : goal.returns-then-self
-returns-then-self c = let w = c.args.self.now in record { same = refl; puts = puts_byte w.out.now w.at c.args.b c.if-self.true }
+pub returns-then-at-self : goal.returns-then-at-self
+returns-then-at-self c = let w = c.args.self.now in record { same = refl; puts = puts_byte w.out.now w.at c.args.b c.if-at-self.true }
 
-pub returns-else-self : goal.returns-else-self
-returns-else-self c = let w = c.args.self.now in record { same = refl; puts = puts_over w.out.now w.at c.args.b c.if-self.false }
+pub returns-else-at-self : goal.returns-else-at-self
+returns-else-at-self c = let w = c.args.self.now in record { same = refl; puts = puts_over w.out.now w.at c.args.b c.if-at-self.false }

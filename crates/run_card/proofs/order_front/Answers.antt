@@ -1,8 +1,0 @@
--- The sheet is read, and what stands behind it.
-use Rattle.std.proofs.Common.{sym, ◌∙◌}
-use Rattle.run_card.proofs.Read.{order_sheet}
-use Rattle.run_card.proofs.order_front.Goals as goal
-
-pub returns-clause-value : goal.returns-clause-value
-returns-clause-value c = let a = c.args in
-    c.order_on_sheet.ensures.value ∙ order_sheet a.own a.transitions a.s.now (sym c.sheet_line.ensures ∙ c.in_ok-sheet.was)
