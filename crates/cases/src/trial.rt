@@ -213,8 +213,8 @@ fn of_values(
 // For a net card, a line with the length of the remainder of the input.
 fn put_left(w: &mut Writer, operation: Operation, input: &[u8]) {
     if let Operation::Net = operation {
-        let (_, next) = net_card::read_net(input).unwrap_or((NO_NET, 0));
-        let rest = net_card::remainder(input, next);
+        let read = net_card::read_net(input).map(|(_, next)| next);
+        let rest = net_card::remainder_of(input, read);
         form::put_number_line(w, b"left=", rest.len() as u64);
     }
 }

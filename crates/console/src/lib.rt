@@ -29,7 +29,8 @@ pub fn read_full<R: Read>(input: &mut R, buffer: &mut [u8]) -> usize
     n
 }
 
-// A refusal as the lines `refused` and `place`. They are no `Display`, whose numbers the library would write: it divides, and the writer of cards does not.
+// A refusal as the lines `refused` and `place`. They are not the text that the library makes of a value: it would write the numbers, and it divides; the writer
+// of cards does not.
 pub fn put_refusal(w: &mut Writer, r: Refusal)
     ensures { Writes w.old (refusal_text r) w.new }
 {

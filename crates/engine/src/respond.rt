@@ -39,7 +39,9 @@ fn put<A: Answer>(a: A, out: &mut [u8]) -> usize
     w.at
 }
 
-// The reply with an answer of at most N bytes. N is small enough for an array.
+// The reply with an answer of at most N bytes. N is small enough for an array, which is on the stack only while this runs: at the place of the call it would
+// lie below what reads the cards, and a thread of the size that docs/EMBEDDING.md names would be too small.
+#[inline(never)]
 pub(crate) fn respond<const N: usize, A: Answer>(a: A, out: &mut [u8]) -> Result<usize, Refusal>
     requires ready { A.ready a }
     requires fits { length (A.text a) ≤ N }

@@ -7,8 +7,8 @@ use open_run::OpenRun;
 use reply::Refusal;
 use std::io::{Read, Write};
 
-// A run that is entered live: what is read and where the answers go, the buffer of what has come, the run's record, the number of the next line, and the part
-// of the buffer that is not answered.
+// A run that is entered live: what is read and where the answers go, the buffer of what has come, the run's record, the number of the next line, the part of
+// the buffer that is not answered, and up to where no line ends in it: each byte is looked at once, however small the pieces are in which a line comes.
 #[derive(Drop)]
 struct LiveRun<'a, R, W> {
     input: &'a mut R,
@@ -17,6 +17,7 @@ struct LiveRun<'a, R, W> {
     run: OpenRun,
     number: usize,
     at: usize,
+    seen: usize,
     end: usize,
 }
 
@@ -113,13 +114,15 @@ fn line_end(s: &[u8], at: usize) -> Option<usize> {
     Some(at + bytes + 1)
 }
 
-// Moves the part of a buffer between two positions to its front; how many bytes.
+// Moves the part of a buffer between two positions to its front, where it may stand already; how many bytes.
 fn move_to_front(buffer: &mut [u8], at: usize, end: usize) -> usize {
     let last = end.min(buffer.len());
     if last <= at {
         return 0;
     }
-    buffer.copy_within(at..last, 0);
+    if 0 < at {
+        buffer.copy_within(at..last, 0);
+    }
     last - at
 }
 
@@ -140,6 +143,7 @@ impl<'a, R: Read, W: Write> LiveRun<'a, R, W> {
         self.run = a.run;
         self.number = self.number.saturating_add(1);
         self.at = next;
+        self.seen = next;
         Some(())
     }
 
@@ -152,14 +156,15 @@ impl<'a, R: Read, W: Write> LiveRun<'a, R, W> {
             return None;
         }
         self.at = 0;
+        self.seen = left;
         self.end = left + more;
         Some(())
     }
 
     // Answers the next line where it has ended, and reads on where it has not.
     fn turn(&mut self) -> Option<()> {
-        let (at, end) = (self.at, self.end);
-        match line_end(part(self.buffer, 0, end), at) {
+        let (seen, end) = (self.seen, self.end);
+        match line_end(part(self.buffer, 0, end), seen) {
             Some(next) => self.answer(next),
             None => self.read_on(),
         }
@@ -188,6 +193,7 @@ fn live<R: Read, W: Write>(input: &mut R, to: &mut W, buffer: &mut [u8]) {
         run,
         number: 4,
         at,
+        seen: at,
         end: n,
     };
     live_run.serve();

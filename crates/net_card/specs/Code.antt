@@ -63,3 +63,8 @@ behind_counts head f = with_counts head.sheet head.places head.transitions f
 -- and from its tokens and what the lines of its transitions say
 abbrev pub started : Heading → List ℕ → Found (List Row) → Found Net
 started head start f = and_then f (λ rs next. found (to_net (head.sheet, (head.places, (head.transitions, (start, rs))))) next)
+
+-- where the unread remainder of an input starts: behind the card, or at the front where the card is refused
+abbrev pub remainder_start : Result ℕ Refusal → ℕ
+remainder_start (Ok next) = next
+remainder_start (Err r) = 0

@@ -12,7 +12,7 @@ ghost use Rattle.text.specs.Writer.{Writes};
 ghost use Rattle.form.specs.Form.{keyed};
 ghost use Rattle.form.specs.Line.{items, items_text};
 ghost use Rattle.net.specs.Net.{latest, latest_checked, latest_text, weights, starts, rows, rows_of, body, counted_lines, net_card, net_text};
-ghost use Rattle.net_card.specs.Code.{interval, found_in, stored_in, stored_as, behind_sheet, behind_counts, started};
+ghost use Rattle.net_card.specs.Code.{interval, found_in, stored_in, stored_as, behind_sheet, behind_counts, started, remainder_start};
 
 use counts::{Heading, Slots};
 use form::{Judge, Range};
@@ -233,6 +233,14 @@ pub fn remainder(s: &[u8], next: usize) -> &[u8]
         × (result.ref_ptr.1 ≡ s.entry.ref_ptr.1 + min next (length s.now)) }
 {
     &s[next.min(s.len())..]
+}
+
+// The same behind what a reader says that it read: all of the input where it refused the card.
+pub fn remainder_of(s: &[u8], read: Result<usize, Refusal>) -> &[u8]
+    ensures { (result.now ≡ drop (remainder_start read) s.now) × (result.ref_ptr.0 ≡ s.entry.ref_ptr.0)
+        × (result.ref_ptr.1 ≡ s.entry.ref_ptr.1 + min (remainder_start read) (length s.now)) }
+{
+    remainder(s, read.unwrap_or(0))
 }
 
 // A transition's interval, as its two lines would be checked.

@@ -120,7 +120,8 @@ fn timetable_run(order: Order, instants: [u64; 65]) -> Run
     }
 }
 
-// The earliest timetable of an order on a net, or the refusal.
+// The earliest timetable of an order on a net, or the refusal. Its windows and instants have left the stack before the answer is written.
+#[inline(never)]
 pub fn timetable(net: Net, order: Order) -> Result<Run, Refusal>
     ensures { result ≡ timetabled net order }
 {

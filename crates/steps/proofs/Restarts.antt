@@ -116,6 +116,12 @@ module _ (a : Arcs) (later : List ℕ) (instant : ℕ) (since : List ℕ) where
             rw (z, off, and-false (get_or marks t false)) refl
         go u l false q = other u l q
 
+    -- so in either case
+    pub renewed_by_lem : (b : Bool) → (again && enough a.take a.places later t) ≡ b
+        → cond b (set next t instant) next ≡ renewed_by a again looked later t instant since
+    renewed_by_lem true h = renewed_set h
+    renewed_by_lem false h = renewed_kept h
+
 -- ---- the marks are the restarts
 -- what is not below is at least as large
 not_lt : (a b : ℕ) → not (ltb a b) ≡ leb b a

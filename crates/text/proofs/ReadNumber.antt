@@ -19,7 +19,7 @@ use Rattle.text.specs.declared.ByteClass.TheVariants.{Zero, Digit, Comma, LineEn
 use Rattle.text.specs.Key.{begins_with}
 use Rattle.text.specs.Number.{is_digit, class_of, digits_of, value_of, well_formed, number_at, separator, closed, field_at}
 use Rattle.text.proofs.KeyLaws.{begins_split}
-use Rattle.text.proofs.NumberLaws.{digit_range, separator_stops, long_form, zero_form, number_of_right, number_of_wrong}
+use Rattle.text.proofs.NumberLaws.{digit_range, digit_test, separator_stops, long_form, zero_form, number_of_right, number_of_wrong}
 
 -- ---- what a class says of the byte
 abbrev Says : ByteClass → ℕ → Type 0
@@ -42,6 +42,35 @@ class_says b k e = rw e at (go (is_digit b) (eqb b 48) (eqb b 44) (eqb b 10) ref
     go false z true w p o q r = eqb-true b 44 q
     go false z false true p o q r = eqb-true b 10 r
     go false z false false p o q r = (p, eqb-false b 44 q, eqb-false b 10 r)
+
+-- whether a byte of a class is a digit
+abbrev pub digit_by : ByteClass → Bool
+digit_by Zero = true
+digit_by (Digit d) = true
+digit_by Comma = false
+digit_by LineEnd = false
+digit_by Other = false
+
+pub digit_class : (b : ℕ) (k : ByteClass) → class_of b ≡ k → digit_by k ≡ is_digit b
+digit_class b k e = go k (class_says b k e)
+  where
+    go : (k : ByteClass) → Says k b → digit_by k ≡ is_digit b
+    go Zero h = rw h refl
+    go (Digit d) h = sym (digit_test b (omega arith) (omega arith))
+    go Comma h = rw h refl
+    go LineEnd h = rw h refl
+    go Other h = sym h.0
+
+-- a byte whose class is neither that of a zero nor that of another digit is no digit
+pub no_digit : (b : ℕ) (k : ByteClass) → class_of b ≡ k → k ≢ Zero → ((d : ℕ) → k ≢ Digit d) → false ≡ is_digit b
+no_digit b k e zero_not digit_not = go k zero_not digit_not ∙ digit_class b k e
+  where
+    go : (k : ByteClass) → k ≢ Zero → ((d : ℕ) → k ≢ Digit d) → false ≡ digit_by k
+    go Zero z d = absurd (z refl)
+    go (Digit n) z d = absurd (d n refl)
+    go Comma z d = refl
+    go LineEnd z d = refl
+    go Other z d = refl
 
 -- ---- the digits that a list begins with, one step at a time
 digits_more : (s : List ℕ) (i : ℕ) → i < length s → is_digit (get_or s i 0) ≡ true
