@@ -65,7 +65,8 @@ fn is_settled(s: &[u8]) -> bool {
     }
 }
 
-// Reads the input until that is settled, until it ends or until the buffer is full; how many bytes have come.
+// Reads the input until that is settled, until it ends or until the buffer is full; how many bytes have come. Only a line that has ended settles it, so that a
+// long line is not read anew for each piece of it.
 fn read_opening<R: Read>(input: &mut R, buffer: &mut [u8]) -> usize {
     let mut n: usize = 0;
     // The next position is the one behind what came.
@@ -74,8 +75,9 @@ fn read_opening<R: Read>(input: &mut R, buffer: &mut [u8]) -> usize {
         if more == 0 {
             return n;
         }
+        let from = n;
         n += more;
-        if is_settled(part(buffer, 0, n)) {
+        if part(buffer, from, n).contains(&b'\n') && is_settled(part(buffer, 0, n)) {
             return n;
         }
     }
